@@ -6,7 +6,7 @@ use Rattle.tq_txn.specs.declared.fault.LineFault.TheVariants as faults
 use Rattle.tq_tables.specs.Journals.{JournalsView}
 use Rattle.tq_txn.specs.Dialogue.{Dialogue, LineEnd, Ends, Follows, then_line, ended_by}
 use Rattle.tq_interpreter.specs.declared.txn_slot.TxnSlot.{TxnSlot}
-use Rattle.tq_interpreter.specs.TxnAsked.{TxnAnswer, IsAnswered, answer_line, answer_end, result_text, is_refused_memory}
+use Rattle.tq_interpreter.specs.TxnAsked.{TxnAnswer, IsAnswered, is_refused_memory}
 use Rattle.tq_interpreter.specs.Asking.{Ran, run_line}
 use Rattle.tq_text.specs.Print.{printed_line}
 use Rattle.tq_interpreter.specs.Progress.{Progress}
@@ -26,24 +26,10 @@ pub line_ran : {A S B : Type 0} (line : Dialogue (LineEnd A S)) (f : LineEnd A S
     → IsReplayed old → IsReplayed new → new.journals.levels ≡ old.journals.levels → Follows line old.told new.told (ended_by result after) → is_refused_memory result ≡ false
     → (more : List Exchange) × (run_line old.journals (then_line line (λ end. Ends (f end))) ≡ record { exchanges = more; end = f (record { answer = result; after = after }); after = new.journals })
 line_ran {A} {S} line f old new result after replayed_old replayed_new levels follows fine =
-    let P : Option (LineEnd A S) → Type 0 = λ end. Follows line old.told new.told end in
-    let ran = follows_ran line old new (record { answer = result; after = after }) replayed_old replayed_new levels (subst P (ended_some result after fine) follows) in
+    let ran = follows_ran line old new (record { answer = result; after = after }) replayed_old replayed_new levels (subst (λ (end : Option (LineEnd A S)). Follows line old.told new.told end) (ended_some result after fine) follows) in
     (ran.0, then_ran line f old.journals ∙ ap (ran_as f) ran.1)
 
--- a line of a transaction that was printed so
-pub answered_by : {A S : Type 0} (line : Dialogue (LineEnd A S)) (kept : S → TxnSlot) (servers : S → List ℕ) (text : S → A → List ℕ) (old new : RecorderView) (result : Result A LineFault) (after : S) (before written : List ℕ) (left : TxnSlot)
-    → IsReplayed old → IsReplayed new → new.journals.levels ≡ old.journals.levels → Follows line old.told new.told (ended_by result after) → is_refused_memory result ≡ false
-    → written ≡ before ++ printed_line (result_text (servers after) (text after) result) → left ≡ kept after
-    → IsAnswered (answer_line line kept servers text) (got_to old.journals before) (got_to new.journals written) left
-answered_by line kept servers text old new result after before written left replayed_old replayed_new levels follows fine wrote is =
-    let ran = line_ran line (answer_end kept servers text) old new result after replayed_old replayed_new levels follows fine in
-    record {
-      text = wrote ∙ ap (λ (r : Ran TxnAnswer). before ++ printed_line r.end.text) (sym ran.1);
-      journals = ap (λ (r : Ran TxnAnswer). r.after) (sym ran.1);
-      kept = is ∙ ap (λ (r : Ran TxnAnswer). r.end.kept) (sym ran.1);
-    }
-
--- the same of a line that makes what is said of its whole end
+-- a line of a transaction that was printed so, of whose end is made what is said
 pub said_by : {A S : Type 0} (line : Dialogue (LineEnd A S)) (f : LineEnd A S → TxnAnswer) (old new : RecorderView) (result : Result A LineFault) (after : S) (before written : List ℕ) (left : TxnSlot)
     → IsReplayed old → IsReplayed new → new.journals.levels ≡ old.journals.levels → Follows line old.told new.told (ended_by result after) → is_refused_memory result ≡ false
     → written ≡ before ++ printed_line (f (record { answer = result; after = after })).text → left ≡ (f (record { answer = result; after = after })).kept
@@ -59,6 +45,4 @@ said_by line f old new result after before written left replayed_old replayed_ne
 -- a line that is another in the state of the transaction
 pub answered_as : (line found : Dialogue TxnAnswer) (old new : JournalsView) (before mid after : List ℕ) (left : TxnSlot) → line ≡ found → mid ≡ before → IsAnswered found (got_to old mid) (got_to new after) left → IsAnswered line (got_to old before) (got_to new after) left
 answered_as line found old new before mid after left lines texts said =
-    let P : Dialogue TxnAnswer → Type 0 = λ d. IsAnswered d (got_to old before) (got_to new after) left in
-    let Q : List ℕ → Type 0 = λ t. IsAnswered found (got_to old t) (got_to new after) left in
-    subst P (sym lines) (subst Q texts said)
+    subst (λ (d : Dialogue TxnAnswer). IsAnswered d (got_to old before) (got_to new after) left) (sym lines) (subst (λ (t : List ℕ). IsAnswered found (got_to old t) (got_to new after) left) texts said)

@@ -12,11 +12,9 @@ use Rattle.tq_part.specs.declared.fault.AskFault.{AskFault}
 use Rattle.tq_part.specs.declared.fault.AskFault.TheVariants as ask_faults
 use Rattle.tq_txn_states.specs.declared.fault.TxnFault.{TxnFault}
 use Rattle.tq_txn_states.specs.declared.told.NodeTold.{NodeTold}
-use Rattle.tq_txn_states.specs.declared.told.DeskTold.{DeskTold}
 use Rattle.tq_tables.specs.Journals.{JournalsView}
 use Rattle.tq_world.specs.declared.answer.Step.TheVariants as steps
 use Rattle.tq_world.specs.Steps.{world_after}
-use Rattle.tq_txn.specs.declared.asker.ViewTold.{ViewTold}
 use Rattle.tq_txn.specs.declared.fault.LineFault.{LineFault}
 use Rattle.tq_txn.specs.Dialogue.{Told, Dialogue, LineEnd, Ends, AsksNode, AsksDesk, AsksView, then_line, and_then, go_on, unless, fault_of_ask, node_line, desk_line, view_line}
 use Rattle.tq_txn.specs.Lines.{any_line}
@@ -87,28 +85,14 @@ ends_unless levels Q (Some fault) after line own is = own
 
 untaken_possible : (fault : AskFault) → IsUntaken fault → IsPossible (fault_of_ask fault)
 untaken_possible ask_faults.Memory is = is
-untaken_possible (ask_faults.JournalFull part) is = tt
-untaken_possible (ask_faults.Unfounded (parts.Server server) number) is = tt
-untaken_possible (ask_faults.Unfounded parts.Desk number) is = tt
 untaken_possible (ask_faults.Unfounded parts.View number) is = is
+untaken_possible fault is = tt
 
 pub ends_node : {B T : Type 0} (levels : ℕ) (Q : B → T → Type 0) (server : ℕ) (ask : NodeAsk) (left : Unit {0} → T) (next : NodeTold → Unit {0} → Dialogue (LineEnd B T))
     → ((number : ℕ) (reply : NodeReply) → IsNodeReply reply ask → EndsIn levels (IsWell Q) (next (record { server = server; number = number; ask = ask; reply = reply }) tt))
     → EndsIn levels (IsWell Q) (and_then (node_line server ask) left next)
 ends_node levels Q server ask left next step (Ok answered) told = step answered.number answered.reply told
 ends_node levels Q server ask left next step (Err fault) told = untaken_possible fault told
-
-pub ends_desk : {B T : Type 0} (levels : ℕ) (Q : B → T → Type 0) (ask : DeskAsk) (left : Unit {0} → T) (next : DeskTold → Unit {0} → Dialogue (LineEnd B T))
-    → ((number : ℕ) (reply : DeskReply) → IsDeskReply reply ask → EndsIn levels (IsWell Q) (next (record { number = number; ask = ask; reply = reply }) tt))
-    → EndsIn levels (IsWell Q) (and_then (desk_line ask) left next)
-ends_desk levels Q ask left next step (Ok answered) told = step answered.number answered.reply told
-ends_desk levels Q ask left next step (Err fault) told = untaken_possible fault told
-
-pub ends_view : {B T : Type 0} (levels : ℕ) (Q : B → T → Type 0) (ask : ViewAsk) (left : Unit {0} → T) (next : ViewTold → Unit {0} → Dialogue (LineEnd B T))
-    → ((number : ℕ) (reply : ViewReply) → IsViewReply levels reply ask → EndsIn levels (IsWell Q) (next (record { number = number; ask = ask; reply = reply }) tt))
-    → EndsIn levels (IsWell Q) (and_then (view_line ask) left next)
-ends_view levels Q ask left next step (Ok answered) told = step answered.number answered.reply told
-ends_view levels Q ask left next step (Err fault) told = untaken_possible fault told
 
 -- a line of one ask alone: its reply is of the ask's kind
 pub desk_ends : (levels : ℕ) (ask : DeskAsk) → EndsIn levels (IsWell (λ told none. IsDeskReply told.reply ask)) (desk_line ask)

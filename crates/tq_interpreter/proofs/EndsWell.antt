@@ -41,6 +41,8 @@ use Rattle.tq_live.specs.declared.view.ViewReply.TheVariants as view_replies
 use Rattle.tq_live.specs.declared.view.ViewRefusal.TheVariants as view_refusals
 use Rattle.tq_txn_states.specs.declared.fault.TxnFault.TheVariants as txn_faults
 use Rattle.tq_txn_states.specs.declared.told.NodeTold.{NodeTold}
+use Rattle.tq_txn_states.specs.declared.told.DeskTold.{DeskTold}
+use Rattle.tq_txn.specs.declared.asker.ViewTold.{ViewTold}
 use Rattle.tq_txn_states.specs.Ended.{EndedView, decide_ask}
 use Rattle.tq_txn_states.specs.Open.{OpenView, fits, grant_of, grants_of, not_a_grant, is_member, is_used, is_read_of, is_written, op_read, op_written, pending_content, has_all_ops, grants_fault, read_fault, write_fault, read_after, write_after, txn_after_rewrite, is_full, touched_by, read_copy}
 use Rattle.tq_txn_states.specs.Voting.{VotingView, writes_in, write_in, writes_at, prepare_work, prepare_ask, ask_fault, vote_of, vote_refusal, vote_fault, vote_after, lost_file, has_vote, has_votes, evidence_of}
@@ -50,14 +52,14 @@ use Rattle.tq_txn.specs.declared.fault.LineFault.TheVariants as faults
 use Rattle.tq_txn.specs.declared.read_answer.ReadAnswer.TheVariants.{Copy}
 use Rattle.tq_txn.specs.declared.txn.Txn.{Txn}
 use Rattle.tq_txn.specs.declared.txn.Txn.TheVariants as states
-use Rattle.tq_txn.specs.Dialogue.{line_done, line_failed, and_then, node_line, fault_of_desk}
+use Rattle.tq_txn.specs.Dialogue.{line_done, line_failed, and_then, node_line, desk_line, view_line, fault_of_desk}
 use Rattle.tq_txn.specs.Lines.{LocksView, answers, quorum_answer, choose_line, purpose_of, lock_ask, lock_answer, lock_line, next_lock, locks_line, quorum_line, read_end, quorum_read, first_read, read_again, read_line, write_end, quorum_write, first_write, written_again, write_line, vote_answer, first_prepare, prepare_line, any_line, is_nothing_here, release_line, end_line, ending_line, apply_answer, apply_line, down_line, stop_line, first_prepare_stop, prepare_stop_line}
 use Rattle.tq_txn.specs.Commits.{prepares_line, commit_answer, txn_after_answer, ready_line, decide_line, commit_end, decide_and_end_line, commit_line}
 use Rattle.tq_txn.specs.Aborts.{txn_after_resolve, end_aborted, abort_end, abort_line}
 use Rattle.tq_txn.specs.States.{number_of}
 use Rattle.tq_interpreter.specs.PossibleTxn.{IsOfOwn, IsPossible}
 use Rattle.tq_interpreter.proofs.Replies.{IsWorkReply, IsDeskReply, IsViewReply, refuse_all, refuse_for_all, or_else_all}
-use Rattle.tq_interpreter.proofs.EndsIn.{EndsIn, Answers, IsWell, Any, ends_and, ends_unless, ends_node, ends_desk, ends_view, any_ends}
+use Rattle.tq_interpreter.proofs.EndsIn.{EndsIn, Answers, IsWell, Any, ends_and, ends_unless, ends_node, desk_ends, view_ends, any_ends}
 use Rattle.tq_txn.proofs.GrantLaws.{none_found}
 
 -- ---- a quorum from the view
@@ -68,15 +70,12 @@ IsChosen levels servers none = Contains (coterie levels) servers
 chosen_well : (levels : ℕ) (purpose : Purpose) (reply : ViewReply) → IsViewReply levels reply (view_asks.Choose purpose) → Answers (IsChosen levels) (quorum_answer levels reply) tt
 chosen_well levels purpose (view_replies.Chosen quorum cost) is = rw (eq-eqb quorum.levels levels is.0) is.1
 chosen_well levels purpose (view_replies.Refused (view_refusals.Blocked blocker)) is = tt
-chosen_well levels purpose (view_replies.Refused view_refusals.NoSuchServer) is = is
-chosen_well levels purpose (view_replies.Refused view_refusals.BadCost) is = is
-chosen_well levels purpose view_replies.CostSet is = absurd is
-chosen_well levels purpose view_replies.Marked is = absurd is
+chosen_well levels purpose reply is = absurd is
 
 choose_ends : (levels : ℕ) (purpose : Purpose) → EndsIn levels (IsWell (IsChosen levels)) (choose_line levels purpose)
 choose_ends levels purpose =
-    ends_view levels (IsChosen levels) (view_asks.Choose purpose) (λ none. none) (λ told none. answers (quorum_answer levels told.reply) none)
-    (λ number reply is. chosen_well levels purpose reply is)
+    ends_and levels (λ (told : ViewTold) none. IsViewReply levels told.reply (view_asks.Choose purpose)) (IsChosen levels) (view_line (view_asks.Choose purpose)) (λ none. none) (λ told none. answers (quorum_answer levels told.reply) none)
+    (view_ends levels (view_asks.Choose purpose)) (λ told none is. chosen_well levels purpose told.reply is)
 
 -- ---- locks
 
@@ -90,14 +89,7 @@ granted_well : (txn : ℕ) (file : List ℕ) (mode : Mode) (server number : ℕ)
     Answers {S = Unit {0}} (λ told none. IsLock txn file mode server told) (lock_answer told reply) tt
 granted_well txn file mode server number (replies.Granted version content) is = (number, version, content, refl)
 granted_well txn file mode server number (replies.Refused refusal) is = is
-granted_well txn file mode server number (replies.Yes held writes) is = absurd is
-granted_well txn file mode server number replies.Installed is = absurd is
-granted_well txn file mode server number replies.Discarded is = absurd is
-granted_well txn file mode server number replies.Released is = absurd is
-granted_well txn file mode server number (replies.Copy version content) is = absurd is
-granted_well txn file mode server number replies.Refreshed is = absurd is
-granted_well txn file mode server number replies.Crashed is = absurd is
-granted_well txn file mode server number replies.Returned is = absurd is
+granted_well txn file mode server number reply is = absurd is
 
 lock_ends : (levels txn : ℕ) (file : List ℕ) (mode : Mode) (server : ℕ) → EndsIn levels (IsWell (λ told none. IsLock txn file mode server told)) (lock_line txn file mode server)
 lock_ends levels txn file mode server =
@@ -107,16 +99,14 @@ lock_ends levels txn file mode server =
 -- the answers are those of these servers, in their order
 abbrev AreLocks : ℕ → List ℕ → Mode → List ℕ → List NodeTold → Type 0
 AreLocks txn file mode [] [] = Unit {0}
-AreLocks txn file mode [] (told ∷ more) = ⊥
-AreLocks txn file mode (server ∷ servers) [] = ⊥
 AreLocks txn file mode (server ∷ servers) (told ∷ more) = IsLock txn file mode server told × AreLocks txn file mode servers more
+AreLocks txn file mode servers more = ⊥
 
 one_lock_more : (txn : ℕ) (file : List ℕ) (mode : Mode) (servers : List ℕ) (more : List NodeTold) (server : ℕ) (told : NodeTold)
     → AreLocks txn file mode servers more → IsLock txn file mode server told → AreLocks txn file mode (servers ++ server ∷ []) (more ++ told ∷ [])
 one_lock_more txn file mode [] [] server told are is = (is, tt)
-one_lock_more txn file mode [] (other ∷ more) server told are is = absurd are
-one_lock_more txn file mode (first ∷ servers) [] server told are is = absurd are
 one_lock_more txn file mode (first ∷ servers) (other ∷ more) server told are is = (are.0, one_lock_more txn file mode servers more server told are.1 is)
+one_lock_more txn file mode servers more server told are is = absurd are
 
 -- the transaction is the one that began, but for the servers that it notes
 record IsOne (start now : OpenView) : Type 0 where
@@ -173,12 +163,11 @@ lock_grant kind mode fit txn file server told is =
 all_grants : (kind : OpKind) (mode : Mode) → fits kind mode ≡ true → (txn : ℕ) (file : List ℕ) (servers : List ℕ) (told : List NodeTold) → AreLocks txn file mode servers told
     → (find (λ told. is_none (grant_of kind txn file told)) told ≡ None) × (granters (grants_of kind txn file told) ≡ servers)
 all_grants kind mode fit txn file [] [] are = (refl, refl)
-all_grants kind mode fit txn file [] (other ∷ told) are = absurd are
-all_grants kind mode fit txn file (server ∷ servers) [] are = absurd are
 all_grants kind mode fit txn file (server ∷ servers) (first ∷ told) are =
     let grant = lock_grant kind mode fit txn file server first are.0 in
     let rest = all_grants kind mode fit txn file servers told are.1 in
     (rw (grant.1) rest.0, rw (grant.1) (ap (λ (s : ℕ). s ∷ granters (grants_of kind txn file told)) grant.2 ∙ ap (λ (ss : List ℕ). server ∷ ss) rest.1))
+all_grants kind mode fit txn file servers told are = absurd are
 
 ascending : (low : ℕ) (servers : List ℕ) → Ascends low servers → rises_from low servers ≡ true
 ascending low [] up = refl
@@ -209,10 +198,9 @@ unused (op ∷ ops) file w r =
     by (is_write op) (same_name op.file file) (list_any (writes_file file) ops) (list_any (is_read_of file) ops) (unused ops file) w r
   where
     by : (write same ws rs : Bool) → (ws ≡ false → rs ≡ false → is_used ops file ≡ false) → ((write && same) || ws) ≡ false → ((not write && same) || rs) ≡ false → (same || is_used ops file) ≡ false
-    by true true ws rs ih w r = absurd (cc)
-    by false true ws rs ih w r = absurd (cc)
     by true false ws rs ih w r = ih w r
     by false false ws rs ih w r = ih w r
+    by write same ws rs ih w r = absurd cc
 
 read_ends : (levels : ℕ) (file : List ℕ) (told : List NodeTold) (old now : OpenView) → IsQuorumTold old file Shared told now → is_used old.ops file ≡ false → EndsIn levels (IsWell Any) (read_end file told now)
 read_ends levels file told old now is free =
@@ -237,9 +225,8 @@ pub read_well : (old : OpenView) (file : List ℕ) → EndsIn old.levels (IsWell
 read_well old file = by (pending_content old file) (op_read old file) refl refl
   where
     by : (content : Option (List ℕ)) (op : Option Op) → pending_content old file ≡ content → op_read old file ≡ op → EndsIn old.levels (IsWell Any) (read_again content op old (first_read old file))
-    by (Some content) op p q = tt
-    by None (Some op) p q = tt
     by None None p q = first_read_ends old file (free_of old file p q)
+    by content op p q = tt
 
 write_ends : (levels : ℕ) (file content : List ℕ) (told : List NodeTold) (old now : OpenView) → IsQuorumTold old file Exclusive told now → is_written old.ops file ≡ false → EndsIn levels (IsWell Any) (write_end file content told now)
 write_ends levels file content told old now is free =
@@ -286,27 +273,17 @@ vote_well old server number (replies.Yes held writes) is levels =
     ends_unless levels Any (vote_fault old told) old (line_done tt (vote_after old told))
     (refuse_all IsOfOwn (not (is_server_of old.txn.ops server)) txn_faults.NotAVoter (vote_refusal old.txn.ops (vote_of old.txn.txn told)) tt
     (rw (mine, asked) (refuse_for_all IsOfOwn (lost_file old.txn.ops vote) txn_faults.LostLock None (λ file. tt) tt))) tt
-vote_well old server number (replies.Granted version content) is levels = absurd is
-vote_well old server number replies.Installed is levels = absurd is
-vote_well old server number replies.Discarded is levels = absurd is
-vote_well old server number replies.Released is levels = absurd is
-vote_well old server number (replies.Copy version content) is levels = absurd is
-vote_well old server number replies.Refreshed is levels = absurd is
-vote_well old server number replies.Crashed is levels = absurd is
-vote_well old server number replies.Returned is levels = absurd is
+vote_well old server number reply is levels = absurd is
 
 pub prepare_well : (levels : ℕ) (old : VotingView) (server : ℕ) → EndsIn levels (IsWell Any) (prepare_line old server)
 prepare_well levels old server = by (has_vote old.votes server)
   where
-    first : EndsIn levels (IsWell Any) (first_prepare old server)
-    first =
+    by : (there : Bool) → EndsIn levels (IsWell Any) (cond there (line_done tt old) (first_prepare old server))
+    by true = tt
+    by false =
         ends_unless levels Any (ask_fault old.txn server) old (and_then (node_line server (prepare_ask old.txn server)) (λ none. old) (λ told none. vote_answer old told))
         (refuse_all IsOfOwn (not (is_server_of old.txn.ops server)) txn_faults.NotAVoter None tt tt)
         (ends_node levels Any server (prepare_ask old.txn server) (λ none. old) (λ told none. vote_answer old told) (λ number reply is. vote_well old server number reply is levels))
-
-    by : (there : Bool) → EndsIn levels (IsWell Any) (cond there (line_done tt old) (first_prepare old server))
-    by true = tt
-    by false = first
 
 -- ---- the ending
 
@@ -334,23 +311,21 @@ desk_possible refusal = tt
 committed_well : (reply : DeskReply) (txn : ℕ) (ops : List Op) (votes : List Vote) (after : Txn) → IsDeskReply reply (desk_asks.Commit txn ops votes) → Answers Any (commit_answer reply) after
 committed_well (desk_replies.Committed serial) txn ops votes after is = tt
 committed_well (desk_replies.Refused refusal) txn ops votes after is = desk_possible refusal
-committed_well (desk_replies.Txn number) txn ops votes after is = absurd is
-committed_well (desk_replies.Verdict verdict) txn ops votes after is = absurd is
+committed_well reply txn ops votes after is = absurd is
 
 pub decide_well : (levels : ℕ) (old : VotingView) → EndsIn levels (IsWell Any) (decide_line old)
 decide_well levels old = by (has_votes old)
   where
     by : (all : Bool) → EndsIn levels (IsWell Any) (cond all (ready_line old) (line_failed (faults.Txn txn_faults.VotesMissing) (states.Voting old)))
     by true =
-        ends_desk levels Any (evidence_of old) (λ none. states.Voting old) (λ told none. answers (commit_answer told.reply) (txn_after_answer old told))
-        (λ number reply is. committed_well reply old.txn.txn old.txn.ops old.votes (txn_after_answer old (record { number = number; ask = evidence_of old; reply = reply })) is)
+        ends_and levels (λ (told : DeskTold) none. IsDeskReply told.reply (evidence_of old)) Any (desk_line (evidence_of old)) (λ none. states.Voting old) (λ told none. answers (commit_answer told.reply) (txn_after_answer old told))
+        (desk_ends levels (evidence_of old)) (λ told none is. committed_well told.reply old.txn.txn old.txn.ops old.votes (txn_after_answer old told) is)
     by false = tt
 
 commit_ends : (levels serial : ℕ) (txn : Txn) → EndsIn levels (IsWell Any) (commit_end serial txn)
 commit_ends levels serial (states.Ended ended) =
     ends_and levels Any Any (ending_line ended ended.servers) (λ none. states.Ended ended) (λ all none. line_done serial (states.Ended ended)) (ending_ends levels ended ended.servers) (λ all none so. tt)
-commit_ends levels serial (states.Open open_txn) = tt
-commit_ends levels serial (states.Voting voting) = tt
+commit_ends levels serial txn = tt
 
 prepares_ends : (levels : ℕ) (servers : List ℕ) (old : VotingView) → EndsIn levels (IsWell Any) (prepares_line servers old)
 prepares_ends levels [] old = tt
@@ -368,20 +343,19 @@ commit_well levels old =
 ended_by_abort : (levels : ℕ) (txn : Txn) → EndsIn levels (IsWell Any) (end_aborted (desk_replies.Verdict verdicts.Abort) txn)
 ended_by_abort levels (states.Ended ended) =
     ends_and levels Any Any (ending_line ended ended.servers) (λ none. states.Ended ended) (λ all none. line_done tt (states.Ended ended)) (ending_ends levels ended ended.servers) (λ all none so. tt)
-ended_by_abort levels (states.Open open_txn) = tt
-ended_by_abort levels (states.Voting voting) = tt
+ended_by_abort levels txn = tt
 
 abort_ends : (levels number : ℕ) (reply : DeskReply) (txn : Txn) → IsDeskReply reply (desk_asks.Resolve number) → EndsIn levels (IsWell Any) (abort_end reply txn)
 abort_ends levels number (desk_replies.Verdict verdicts.Abort) txn is = ended_by_abort levels txn
 abort_ends levels number (desk_replies.Verdict (verdicts.Commit votes)) txn is = tt
 abort_ends levels number (desk_replies.Refused refusal) txn is = desk_possible refusal
-abort_ends levels number (desk_replies.Txn begun) txn is = absurd is
-abort_ends levels number (desk_replies.Committed serial) txn is = absurd is
+abort_ends levels number reply txn is = absurd is
 
 pub abort_well : (levels : ℕ) (old : Txn) → EndsIn levels (IsWell Any) (abort_line old)
 abort_well levels old =
-    ends_desk levels Any (desk_asks.Resolve (number_of old)) (λ none. old) (λ told none. abort_end told.reply (txn_after_resolve old told))
-    (λ number reply is. abort_ends levels (number_of old) reply (txn_after_resolve old (record { number = number; ask = desk_asks.Resolve (number_of old); reply = reply })) is)
+    let ask = desk_asks.Resolve (number_of old) in
+    ends_and levels (λ (told : DeskTold) none. IsDeskReply told.reply ask) Any (desk_line ask) (λ none. old) (λ told none. abort_end told.reply (txn_after_resolve old told))
+    (desk_ends levels ask) (λ told none is. abort_ends levels (number_of old) told.reply (txn_after_resolve old told) is)
 
 -- ---- apply
 
@@ -389,13 +363,7 @@ applied_well : (server txn : ℕ) (verdict : Verdict) (cite : ℕ) (reply : Node
 applied_well server txn verdict cite replies.Installed is = tt
 applied_well server txn verdict cite replies.Discarded is = tt
 applied_well server txn verdict cite (replies.Refused refusal) is = is
-applied_well server txn verdict cite (replies.Granted version content) is = absurd is
-applied_well server txn verdict cite (replies.Yes held writes) is = absurd is
-applied_well server txn verdict cite replies.Released is = absurd is
-applied_well server txn verdict cite (replies.Copy version content) is = absurd is
-applied_well server txn verdict cite replies.Refreshed is = absurd is
-applied_well server txn verdict cite replies.Crashed is = absurd is
-applied_well server txn verdict cite replies.Returned is = absurd is
+applied_well server txn verdict cite reply is = absurd is
 
 pub apply_well : (levels txn : ℕ) (verdict : Verdict) (cite server : ℕ) → EndsIn levels (IsWell Any) (apply_line txn verdict cite server)
 apply_well levels txn verdict cite server =
@@ -405,7 +373,9 @@ apply_well levels txn verdict cite server =
 -- ---- a stop in the midst of an ask
 
 down_ends : (levels server : ℕ) → EndsIn levels (IsWell Any) (down_line server)
-down_ends levels server = ends_view {B = Unit {0}} {T = Unit {0}} levels Any (view_asks.Mark server false) (λ none. none) (λ told none. line_done tt none) (λ number reply is. tt)
+down_ends levels server =
+    ends_and {B = Unit {0}} {T = Unit {0}} levels (λ (told : ViewTold) none. IsViewReply levels told.reply (view_asks.Mark server false)) Any (view_line (view_asks.Mark server false)) (λ none. none) (λ told none. line_done tt none)
+    (view_ends levels (view_asks.Mark server false)) (λ told none is. tt)
 
 pub stop_well : (levels server : ℕ) (ask : WorkAsk) (after : ℕ) → EndsIn levels (IsWell Any) (stop_line server ask after)
 stop_well levels server ask after =
@@ -415,13 +385,10 @@ stop_well levels server ask after =
 pub prepare_stop_well : (levels : ℕ) (old : VotingView) (server after : ℕ) → EndsIn levels (IsWell Any) (prepare_stop_line old server after)
 prepare_stop_well levels old server after = by (has_vote old.votes server)
   where
-    first : EndsIn levels (IsWell Any) (first_prepare_stop old server after)
-    first =
+    by : (there : Bool) → EndsIn levels (IsWell Any) (cond there (line_done true old) (first_prepare_stop old server after))
+    by true = tt
+    by false =
         ends_unless levels Any (ask_fault old.txn server) old (and_then (stop_line server (prepare_work old.txn server) after) (λ none. old) (λ all none. line_done false old))
         (refuse_all IsOfOwn (not (is_server_of old.txn.ops server)) txn_faults.NotAVoter None tt tt)
         (ends_and levels Any Any (stop_line server (prepare_work old.txn server) after) (λ none. old) (λ all none. line_done false old)
         (stop_well levels server (prepare_work old.txn server) after) (λ all none so. tt))
-
-    by : (there : Bool) → EndsIn levels (IsWell Any) (cond there (line_done true old) (first_prepare_stop old server after))
-    by true = tt
-    by false = first

@@ -25,7 +25,7 @@ use Rattle.tq_txn.specs.declared.read_answer.ReadAnswer.{ReadAnswer}
 use Rattle.tq_txn.specs.declared.read_answer.ReadAnswer.TheVariants as readings
 use Rattle.tq_text.specs.Print.{numbers_text, op_servers, bracketed_text, version_text, reading_text, applied_text, verdict_text}
 use Rattle.tq_text.specs.Refusals.{ended_text, decided_text, server_refusal_text, desk_refusal_text, view_refusal_text, txn_fault_text, fault_text}
-use Rattle.tq_interpreter.specs.PossibleTxn.{IsOfWork, IsOfOwn, IsOfChoice, IsPossible, Saying, Reads, Writes, Votes, Commits, Aborts, Resolves, Applies, Closed, Undecided, Stops, OffTree, Fails, saying_text, CanCome, IsFit}
+use Rattle.tq_interpreter.specs.PossibleTxn.{IsOfWork, IsOfOwn, IsOfChoice, IsPossible, Saying, Reads, Resolves, Applies, Fails, saying_text, CanCome, IsFit}
 
 -- ---- texts that differ at some place
 
@@ -78,20 +78,11 @@ fit_decided (verdicts.Commit votes) = fit (decided_text (verdicts.Commit votes))
 fit_server : (server : ℕ) (refusal : NodeRefusal) → IsOfWork refusal → IsFit (server_refusal_text server refusal)
 fit_server server node.AlreadyUp is = absurd is
 fit_server server node.AlreadyDown is = absurd is
-fit_server server node.Down is = fit (server_refusal_text server node.Down) refl refl refl
-fit_server server (node.Held by) is = fit (server_refusal_text server (node.Held by)) refl refl refl
-fit_server server node.Prepared is = fit (server_refusal_text server node.Prepared) refl refl refl
-fit_server server (node.NotLocked file) is = fit (server_refusal_text server (node.NotLocked file)) refl refl refl
-fit_server server node.BadWrites is = fit (server_refusal_text server node.BadWrites) refl refl refl
-fit_server server node.NotNewer is = fit (server_refusal_text server node.NotNewer) refl refl refl
-fit_server server node.NothingHere is = fit (server_refusal_text server node.NothingHere) refl refl refl
+fit_server server refusal is = fit (server_refusal_text server refusal) refl refl refl
 
 fit_desk : (refusal : DeskRefusal) → IsFit (desk_refusal_text refusal)
-fit_desk desk.NoSuchTxn = fit (desk_refusal_text desk.NoSuchTxn) refl refl refl
 fit_desk (desk.Decided verdict) = fit_decided verdict
-fit_desk desk.TooManyOps = fit (desk_refusal_text desk.TooManyOps) refl refl refl
-fit_desk (desk.BadEvidence rule) = fit (desk_refusal_text (desk.BadEvidence rule)) refl refl refl
-fit_desk desk.TooManyFiles = fit (desk_refusal_text desk.TooManyFiles) refl refl refl
+fit_desk refusal = fit (desk_refusal_text refusal) refl refl refl
 
 fit_ended : (committed : Bool) → IsFit (ended_text committed)
 fit_ended true = fit (ended_text true) refl refl refl
@@ -99,8 +90,7 @@ fit_ended false = fit (ended_text false) refl refl refl
 
 fit_view : (refusal : ViewRefusal) → IsOfChoice refusal → IsFit (view_refusal_text refusal)
 fit_view (view.Blocked blocker) is = fit (view_refusal_text (view.Blocked blocker)) refl refl refl
-fit_view view.NoSuchServer is = absurd is
-fit_view view.BadCost is = absurd is
+fit_view refusal is = absurd is
 
 fit_own : (servers : List ℕ) (fault : TxnFault) → IsOfOwn fault → IsFit (txn_fault_text servers fault)
 fit_own servers txn.Memory is = absurd is
@@ -109,20 +99,13 @@ fit_own servers (txn.NotAGrant server) is = absurd is
 fit_own servers txn.AlreadyThere is = absurd is
 fit_own servers txn.NotMyVote is = absurd is
 fit_own servers txn.NotMyVerdict is = absurd is
-fit_own servers txn.TooManyOps is = fit (txn_fault_text servers txn.TooManyOps) refl refl refl
-fit_own servers txn.VersionFull is = fit (txn_fault_text servers txn.VersionFull) refl refl refl
-fit_own servers txn.NoOps is = fit (txn_fault_text servers txn.NoOps) refl refl refl
-fit_own servers txn.NotAVoter is = fit (txn_fault_text servers txn.NotAVoter) refl refl refl
-fit_own servers (txn.LostLock file) is = fit (txn_fault_text servers (txn.LostLock file)) refl refl refl
-fit_own servers txn.VotesMissing is = fit (txn_fault_text servers txn.VotesMissing) refl refl refl
+fit_own servers fault is = fit (txn_fault_text servers fault) refl refl refl
 
 fit_unfounded : (servers : List ℕ) (part : Part) (number : ℕ) → IsPossible (faults.Unfounded part number) → IsFit (fault_text servers (faults.Unfounded part number))
-fit_unfounded servers (parts.Server server) number is = fit (fault_text servers (faults.Unfounded (parts.Server server) number)) refl refl refl
-fit_unfounded servers parts.Desk number is = fit (fault_text servers (faults.Unfounded parts.Desk number)) refl refl refl
 fit_unfounded servers parts.View number is = absurd is
+fit_unfounded servers part number is = fit (fault_text servers (faults.Unfounded part number)) refl refl refl
 
 pub fit_fault : (servers : List ℕ) (fault : LineFault) → IsPossible fault → IsFit (fault_text servers fault)
-fit_fault servers faults.Memory is = absurd is
 fit_fault servers (faults.JournalFull part) is = fit (fault_text servers (faults.JournalFull part)) refl refl refl
 fit_fault servers (faults.Unfounded part number) is = fit_unfounded servers part number is
 fit_fault servers (faults.Txn fault) is = fit_own servers fault is
@@ -130,7 +113,7 @@ fit_fault servers (faults.Server server refusal) is = fit_server server refusal 
 fit_fault servers (faults.Desk refusal) is = fit_desk refusal
 fit_fault servers (faults.Ended committed) is = fit_ended committed
 fit_fault servers (faults.View refusal) is = fit_view refusal is
-fit_fault servers (faults.WrongReply part) is = absurd is
+fit_fault servers fault is = absurd is
 
 -- ---- all texts that can come
 
@@ -144,14 +127,7 @@ fit_applied server applied.Discarded = fit (applied_text server applied.Discarde
 
 pub fits_text : (saying : Saying) → CanCome saying → IsFit (saying_text saying)
 fits_text (Reads file op reading) can = fit_shut (reading_text file op reading) (read_shut file op reading)
-fits_text (Writes file op version) can = fit (saying_text (Writes file op version)) refl refl refl
-fits_text (Votes server) can = fit (saying_text (Votes server)) refl refl refl
-fits_text (Commits serial) can = fit (saying_text (Commits serial)) refl refl refl
-fits_text Aborts can = fit (saying_text Aborts) refl refl refl
 fits_text (Resolves verdict) can = fit_verdict verdict
 fits_text (Applies server done) can = fit_applied server done
-fits_text (Closed number) can = fit (saying_text (Closed number)) refl refl refl
-fits_text (Undecided number) can = fit (saying_text (Undecided number)) refl refl refl
-fits_text (Stops server) can = fit (saying_text (Stops server)) refl refl refl
-fits_text (OffTree server) can = fit (saying_text (OffTree server)) refl refl refl
 fits_text (Fails servers fault) can = fit_fault servers fault can
+fits_text saying can = fit (saying_text saying) refl refl refl

@@ -4,11 +4,9 @@ use Rattle.std.proofs.Common.{◌≡◌, ◌∙◌, ◌+◌, ◌≤◌, ℕ, Boo
 use Rattle.std.proofs.lemmas.List.{length-append}
 use Rattle.tq_tables.specs.Journals.{JournalsView}
 use Rattle.tq_world.specs.declared.answer.Step.TheVariants as steps
-use Rattle.tq_world.specs.World.{empty_world}
 use Rattle.tq_world.specs.Steps.{world_after}
 use Rattle.tq_asks.specs.declared.ask.NodeAsk.{NodeAsk}
 use Rattle.tq_asks.specs.declared.ask.NodeReply.{NodeReply}
-use Rattle.tq_txn.specs.declared.asker.Exchange.{Exchange}
 use Rattle.tq_txn.specs.declared.asker.Exchange.TheVariants as exchanges
 use Rattle.tq_part.specs.declared.fault.AskFault.{AskFault}
 use Rattle.tq_part.specs.declared.fault.AskFault.TheVariants as faults
@@ -19,27 +17,20 @@ use Rattle.tq_interpreter.specs.Operators.{LeadsOn, Mended, nothing_mended, behi
 use Rattle.tq_text.specs.Print.{printed_line}
 use Rattle.tq_text.specs.Refusals.{is_memory}
 use Rattle.tq_interpreter.specs.Asking.{Ran, run_line, node_told, desk_told, view_told}
-use Rattle.tq_interpreter.specs.Recorded.{RecorderView, Replays, IsReplayed, full_limits}
-use Rattle.tq_interpreter.proofs.Leading.{replays_more, then_ran}
+use Rattle.tq_interpreter.specs.Recorded.{RecorderView, IsReplayed}
+use Rattle.tq_interpreter.proofs.Leading.{replays_on, then_ran}
 
 pub node_answered : (server : ℕ) (ask : NodeAsk) (told : Told NodeReply) (old new : RecorderView) → IsReplayed old → IsReplayed new → new.journals.levels ≡ old.journals.levels → new.told ≡ old.told ++ exchanges.Node server ask told ∷ []
     → (told ≡ node_told old.journals server ask) × (new.journals ≡ world_after old.journals (steps.Node server ask))
 node_answered server ask told old new replayed_old replayed_new levels grew =
-    let P : ℕ → Type 0 = λ l. Replays (empty_world l full_limits) new.told new.journals in
-    let Q : List Exchange → Type 0 = λ t. Replays (empty_world old.journals.levels full_limits) t new.journals in
-    let all = subst Q grew (subst P levels replayed_new) in
-    let replayed = replays_more old.told (exchanges.Node server ask told ∷ []) _ old.journals new.journals replayed_old all in
-    (replayed.0, replayed.1)
+    replays_on old new (exchanges.Node server ask told ∷ []) replayed_old replayed_new levels grew
 
 -- nor is anything told of one that was not taken
 pub node_refused : (server : ℕ) (ask : NodeAsk) (fault : AskFault) (old new : RecorderView) → is_memory (fault_of_ask fault) ≡ false → IsReplayed old → IsReplayed new → new.journals.levels ≡ old.journals.levels → new.told ≡ old.told ++ node_exchange server ask (Err fault)
     → (None ≡ answer_in (node_told old.journals server ask)) × (new.journals ≡ world_after old.journals (steps.Node server ask))
 node_refused server ask faults.Memory old new fine replayed_old replayed_new levels grew = absurd cc
-node_refused server ask (faults.JournalFull part) old new fine replayed_old replayed_new levels grew =
-    let is = node_answered server ask (Err (faults.JournalFull part)) old new replayed_old replayed_new levels grew in
-    (ap answer_in is.0, is.1)
-node_refused server ask (faults.Unfounded part number) old new fine replayed_old replayed_new levels grew =
-    let is = node_answered server ask (Err (faults.Unfounded part number)) old new replayed_old replayed_new levels grew in
+node_refused server ask fault old new fine replayed_old replayed_new levels grew =
+    let is = node_answered server ask (Err fault) old new replayed_old replayed_new levels grew in
     (ap answer_in is.0, is.1)
 
 -- three texts behind one another
@@ -47,18 +38,17 @@ pub three_texts : (old a b c x y z : List ℕ) → x ≡ old ++ a → y ≡ x ++
 three_texts old a b c x y z first second third =
     third ∙ ap (λ t. t ++ c) (second ∙ ap (λ t. t ++ b) first) ∙ append_assoc (old ++ a) b c ∙ append_assoc old a (b ++ c)
 
--- two lines, the second by the first's end, are run one after the other
-pub then_end : {A B : Type 0} (line : Dialogue A) (next : A → Dialogue B) (old : JournalsView) → (run_line old (then_line line next)).end ≡ (run_line (run_line old line).after (next (run_line old line).end)).end
-then_end (Ends a) next old = refl
-then_end (AsksNode server ask more) next old = then_end (more (node_told old server ask)) next (world_after old (steps.Node server ask))
-then_end (AsksDesk ask more) next old = then_end (more (desk_told old ask)) next (world_after old (steps.Desk ask))
-then_end (AsksView ask more) next old = then_end (more (view_told old ask)) next (world_after old (steps.View ask))
+-- what a line that is run says by its end and the world after it
+abbrev at_end : {A : Type 0} (X : Type 0) → (A → JournalsView → X) → JournalsView → Dialogue A → X
+at_end X part old line = part (run_line old line).end (run_line old line).after
 
-pub then_after : {A B : Type 0} (line : Dialogue A) (next : A → Dialogue B) (old : JournalsView) → (run_line old (then_line line next)).after ≡ (run_line (run_line old line).after (next (run_line old line).end)).after
-then_after (Ends a) next old = refl
-then_after (AsksNode server ask more) next old = then_after (more (node_told old server ask)) next (world_after old (steps.Node server ask))
-then_after (AsksDesk ask more) next old = then_after (more (desk_told old ask)) next (world_after old (steps.Desk ask))
-then_after (AsksView ask more) next old = then_after (more (view_told old ask)) next (world_after old (steps.View ask))
+-- two lines, the second by the first's end, are run one after the other
+then_of : {A B : Type 0} (X : Type 0) (part : B → JournalsView → X) (line : Dialogue A) (next : A → Dialogue B) (old : JournalsView)
+    → at_end X part old (then_line line next) ≡ at_end X part (run_line old line).after (next (run_line old line).end)
+then_of X part (Ends a) next old = refl
+then_of X part (AsksNode server ask more) next old = then_of X part (more (node_told old server ask)) next (world_after old (steps.Node server ask))
+then_of X part (AsksDesk ask more) next old = then_of X part (more (desk_told old ask)) next (world_after old (steps.Desk ask))
+then_of X part (AsksView ask more) next old = then_of X part (more (view_told old ask)) next (world_after old (steps.View ask))
 
 -- ---- jobs one after another
 
@@ -73,15 +63,12 @@ counted_fits true count index fits = omega (arith, fits)
 counted_fits false count index fits = omega (arith, fits)
 
 -- after one job more, the jobs left come to what all come to
-pub jobs_on : (all : Mended) (end : JournalsView) (old after : JournalsView) (mended : Mended) (job : Job) (jobs : List Job) (refreshed : Bool)
-    → (run_line old (jobs_asked mended (job ∷ jobs))).end ≡ all → (run_line old (jobs_asked mended (job ∷ jobs))).after ≡ end
+job_on : (X : Type 0) (part : Mended → JournalsView → X) (old after : JournalsView) (mended : Mended) (job : Job) (jobs : List Job) (refreshed : Bool)
     → refreshed ≡ (run_line old (mends_asked job)).end → after ≡ (run_line old (mends_asked job)).after
-    → ((run_line after (jobs_asked (with_job mended job refreshed) jobs)).end ≡ all) × ((run_line after (jobs_asked (with_job mended job refreshed) jobs)).after ≡ end)
-jobs_on all end old after mended job jobs refreshed ends leads is there =
-    let next = λ (done : Bool). jobs_asked (with_job mended job done) jobs in (
-      ap (λ w. (run_line w (next refreshed)).end) there ∙ ap (λ r. (run_line (run_line old (mends_asked job)).after (next r)).end) is ∙ sym (then_end (mends_asked job) next old) ∙ ends,
-      ap (λ w. (run_line w (next refreshed)).after) there ∙ ap (λ r. (run_line (run_line old (mends_asked job)).after (next r)).after) is ∙ sym (then_after (mends_asked job) next old) ∙ leads,
-    )
+    → at_end X part after (jobs_asked (with_job mended job refreshed) jobs) ≡ at_end X part old (jobs_asked mended (job ∷ jobs))
+job_on X part old after mended job jobs refreshed is there =
+    let next = λ (done : Bool). jobs_asked (with_job mended job done) jobs in
+    (λ k. at_end X part (there k) (next (is k))) ∙ sym (then_of X part (mends_asked job) next old)
 
 -- the same jobs may be listed otherwise
 pub leads_from : {old new : JournalsView} {start done : Mended} {jobs some left : List Job} → some ≡ left → LeadsOn old start jobs new done some → LeadsOn old start jobs new done left
@@ -94,10 +81,9 @@ pub one_on : (old : JournalsView) (start : Mended) (jobs : List Job) (now after 
 one_on old start jobs now after text_now text_after count number job left refreshed leads is there said counts =
     let before = so_far text_now count in
     let is_with : so_far text_after (count + number) ≡ with_job before job refreshed = λ k. record { text = said k; count = count + (counts ∙ counted refreshed) k } in
-    let on = jobs_on (run_line old (jobs_asked start jobs)).end (run_line old (jobs_asked start jobs)).after now after before job left refreshed leads.end leads.after is there in
     record {
-      end = ap (λ m. (run_line after (jobs_asked m left)).end) is_with ∙ on.0;
-      after = ap (λ m. (run_line after (jobs_asked m left)).after) is_with ∙ on.1;
+      end = ap (λ m. (run_line after (jobs_asked m left)).end) is_with ∙ job_on Mended (λ m w. m) now after before job left refreshed is there ∙ leads.end;
+      after = ap (λ m. (run_line after (jobs_asked m left)).after) is_with ∙ job_on JournalsView (λ m w. w) now after before job left refreshed is there ∙ leads.after;
     }
 
 -- ---- how many jobs there were, which are no more than the bytes that they left
@@ -116,23 +102,15 @@ pub line_behind : (text : List ℕ) (mended : Mended) (job : Job) (refreshed : B
 line_behind text mended job refreshed = λ k. record { text = append_assoc text mended.text (printed_line (job_text job refreshed)) k; count = mended.count + cond refreshed 1 0 }
 
 -- and so do the lines of all jobs
-pub end_behind : (text : List ℕ) (jobs : List Job) (mended : Mended) (old : JournalsView) → (run_line old (jobs_asked (behind text mended) jobs)).end ≡ behind text (run_line old (jobs_asked mended jobs)).end
-end_behind text [] mended old = refl
-end_behind text (job ∷ jobs) mended old =
+jobs_behind : (X : Type 0) (part : Mended → JournalsView → X) (text : List ℕ) (jobs : List Job) (mended : Mended) (old : JournalsView)
+    → at_end X part old (jobs_asked (behind text mended) jobs) ≡ at_end X (λ m w. part (behind text m) w) old (jobs_asked mended jobs)
+jobs_behind X part text [] mended old = refl
+jobs_behind X part text (job ∷ jobs) mended old =
     let done = run_line old (mends_asked job) in
-    then_end (mends_asked job) (λ r. jobs_asked (with_job (behind text mended) job r) jobs) old
-    ∙ ap (λ m. (run_line done.after (jobs_asked m jobs)).end) (line_behind text mended job done.end)
-    ∙ end_behind text jobs (with_job mended job done.end) done.after
-    ∙ ap (behind text) (sym (then_end (mends_asked job) (λ r. jobs_asked (with_job mended job r) jobs) old))
-
-pub after_behind : (text : List ℕ) (jobs : List Job) (mended : Mended) (old : JournalsView) → (run_line old (jobs_asked (behind text mended) jobs)).after ≡ (run_line old (jobs_asked mended jobs)).after
-after_behind text [] mended old = refl
-after_behind text (job ∷ jobs) mended old =
-    let done = run_line old (mends_asked job) in
-    then_after (mends_asked job) (λ r. jobs_asked (with_job (behind text mended) job r) jobs) old
-    ∙ ap (λ m. (run_line done.after (jobs_asked m jobs)).after) (line_behind text mended job done.end)
-    ∙ after_behind text jobs (with_job mended job done.end) done.after
-    ∙ sym (then_after (mends_asked job) (λ r. jobs_asked (with_job mended job r) jobs) old)
+    then_of X part (mends_asked job) (λ r. jobs_asked (with_job (behind text mended) job r) jobs) old
+    ∙ ap (λ m. at_end X part done.after (jobs_asked m jobs)) (line_behind text mended job done.end)
+    ∙ jobs_behind X part text jobs (with_job mended job done.end) done.after
+    ∙ sym (then_of X (λ m w. part (behind text m) w) (mends_asked job) (λ r. jobs_asked (with_job mended job r) jobs) old)
 
 -- ---- the whole line
 
@@ -145,7 +123,7 @@ refreshed_end old jobs before middle after count planned texts counts said =
     let mended = (run_line old (jobs_asked nothing_mended jobs)).end in
     let ran = then_ran (jobs_asked nothing_mended (refresh_jobs old)) (refreshed_text (length (refresh_jobs old))) old in
     said ∙ (λ k. texts k ++ printed_line (count_text (counts k) (length jobs)))
-    ∙ ap came (end_behind before jobs nothing_mended old)
+    ∙ ap came (jobs_behind Mended (λ m w. m) before jobs nothing_mended old)
     ∙ append_assoc before mended.text (printed_line (count_text mended.count (length jobs)))
     ∙ ap (λ all. before ++ refreshed_text (length all) (run_line old (jobs_asked nothing_mended all)).end) planned
     ∙ ap (λ (r : Ran (List ℕ)). before ++ r.end) (sym ran)
@@ -154,5 +132,5 @@ pub refreshed_after : (old : JournalsView) (jobs : List Job) (before : List ℕ)
     → after ≡ (run_line old (refresh_asked old)).after
 refreshed_after old jobs before after planned leads =
     let ran = then_ran (jobs_asked nothing_mended (refresh_jobs old)) (refreshed_text (length (refresh_jobs old))) old in
-    leads ∙ after_behind before jobs nothing_mended old
+    leads ∙ jobs_behind JournalsView (λ m w. w) before jobs nothing_mended old
     ∙ ap (λ all. (run_line old (jobs_asked nothing_mended all)).after) planned ∙ ap (λ (r : Ran (List ℕ)). r.after) (sym ran)

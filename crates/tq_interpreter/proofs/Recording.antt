@@ -1,6 +1,7 @@
 -- What a recorder notes of a step: it is told last, and all that was told leads to the journals after the step.
 use Rattle.std.proofs.Common.{◌≡◌, ◌∙◌, ℕ, suc, Bool, true, false, List, [], ◌∷◌, ◌++◌, Option, Some, None, Result, Ok, Err, length, append-nil, refl, sym, ap, subst}
 use Rattle.std.specs.Prelude.{nat_le, if◌then◌else◌, OnOk, OnErr}
+use Rattle.std.specs.List.{flat_map}
 use Rattle.std.specs.Option.{option_map, unwrap_or}
 use Rattle.tq_asks.specs.declared.ask.NodeAsk.{NodeAsk}
 use Rattle.tq_desk.specs.declared.ask.DeskAsk.{DeskAsk}
@@ -37,8 +38,7 @@ use Rattle.tq_interpreter.proofs.Leading.{replays_push}
 
 levels_grown : (world : JournalsView) (step : Step) → (world_with_step world step).levels ≡ world.levels
 levels_grown world (steps.Node server ask) = refl
-levels_grown world (steps.Desk ask) = refl
-levels_grown world (steps.View ask) = refl
+levels_grown world step = refl
 
 pub levels_after : (world : JournalsView) (step : Step) → (world_after world step).levels ≡ world.levels
 levels_after world step = by (refusal world step)
@@ -69,14 +69,9 @@ taken_at world part entries unfounded = by (nat_le world.limits.entries entries)
 
 same_fault : (one two : AskFault) → Path (Option Refusal) (Some (refusal_of one)) (Some (refusal_of two)) → one ≡ two
 same_fault ask_faults.Memory ask_faults.Memory is = refl
-same_fault ask_faults.Memory (ask_faults.JournalFull part) is = absurd cc
-same_fault ask_faults.Memory (ask_faults.Unfounded part number) is = absurd cc
-same_fault (ask_faults.JournalFull part) ask_faults.Memory is = absurd cc
 same_fault (ask_faults.JournalFull part) (ask_faults.JournalFull other) is = cc
-same_fault (ask_faults.JournalFull part) (ask_faults.Unfounded other number) is = absurd cc
-same_fault (ask_faults.Unfounded part number) ask_faults.Memory is = absurd cc
-same_fault (ask_faults.Unfounded part number) (ask_faults.JournalFull other) is = absurd cc
 same_fault (ask_faults.Unfounded part number) (ask_faults.Unfounded other cited) is = cc
+same_fault one two is = absurd cc
 
 untaken_is : (world : JournalsView) (part : Part) (entries : ℕ) (unfounded : Option Citation) (fault : AskFault) → refuse_entry world part entries unfounded ≡ Some (refusal_of fault) → untaken_at world part entries unfounded ≡ Some fault
 untaken_is world part entries unfounded fault = by (nat_le world.limits.entries entries) unfounded
@@ -95,8 +90,7 @@ taken_there world server (Some entries) unfounded is = taken_at world (parts.Ser
 
 no_fault : (fault : AskFault) → Path (Option Refusal) (Some refusals.NoSuchServer) (Some (refusal_of fault)) → ⊥
 no_fault ask_faults.Memory is = cc
-no_fault (ask_faults.JournalFull part) is = cc
-no_fault (ask_faults.Unfounded part number) is = cc
+no_fault fault is = cc
 
 untaken_there : (world : JournalsView) (server : ℕ) (journal : Option (List NodeEntry)) (unfounded : Option Citation) (fault : AskFault) → refuse_at world server journal unfounded ≡ Some (refusal_of fault)
     → untaken_at world (parts.Server server) (length (unwrap_or journal [])) unfounded ≡ Some fault
@@ -113,6 +107,13 @@ faulted world (steps.Node server ask) fault is = untaken_there world server (ite
 faulted world (steps.Desk ask) fault is = untaken_is world parts.Desk (length world.desk) (unfounded_in_desk_ask world ask) fault is
 faulted world (steps.View ask) fault is = untaken_is world parts.View (length world.view) None fault is
 
+-- an ask that was handed on is noted as one
+pub handed_is : (told all : List Exchange) (server number : ℕ) (ask : NodeAsk) (handed : List NodeAsk) (answered : Told NodeReply)
+    → all ≡ told ++ flat_map (λ ask. told_exchanges answered (exchanges.Node number ask answered)) handed → number ≡ server → handed ≡ ask ∷ [] → all ≡ told ++ told_exchanges answered (exchanges.Node server ask answered)
+handed_is told all server number ask handed answered noted numbers one =
+    noted ∙ (λ i. told ++ flat_map (λ ask. told_exchanges answered (exchanges.Node (numbers i) ask answered)) (one i))
+    ∙ ap (λ last. told ++ last) (append-nil (told_exchanges answered (exchanges.Node server ask answered)))
+
 -- ---- what a recorder keeps of a step
 
 -- the recorder after a step: what it was told leads to its journals
@@ -126,27 +127,16 @@ module _ (old new : JournalsView) (told : List Exchange) (kept : IsReplayed (rec
       let start = empty_world old.levels full_limits in
       let levels : new.levels ≡ old.levels = ap (λ (w : JournalsView). w.levels) is ∙ levels_after old (step_of h) in
       let all : Replays start (told ++ h ∷ []) (world_after old (step_of h)) = replays_push told h start old kept matches in
-      let P : JournalsView → Type 0 = λ w. Replays start (told ++ h ∷ []) w in
-      let R : ℕ → Type 0 = λ l. Replays (empty_world l full_limits) (told ++ h ∷ []) new in
-      record { kept = subst R (sym levels) (subst P (sym is) all); tree = levels }
+      record { kept = subst (λ (l : ℕ). Replays (empty_world l full_limits) (told ++ h ∷ []) new) (sym levels) (subst (λ (w : JournalsView). Replays start (told ++ h ∷ []) w) (sym is) all); tree = levels }
 
   -- an ask that was not taken
-  refused : (step : Step) (fault : AskFault) (h : Exchange) → step_of h ≡ step → refusal old step ≡ Some (refusal_of fault) → Matches old h → new ≡ old → IsAsked old new (told ++ h ∷ [])
-  refused step fault h steps_are refuses matches same =
-      asked h (same ∙ sym (ap (λ (r : Option Refusal). state_at r old (world_with_step old step)) refuses) ∙ ap (λ (s : Step). world_after old s) (sym steps_are)) matches
-
   unasked : (step : Step) (fault : AskFault) (h : Exchange) → step_of h ≡ step → (step_refusal old step ≡ Some fault → Matches old h) → IsTold old step (Err (refusal_of fault)) → new ≡ old
       → IsAsked old new (told ++ unless_memory fault h)
   unasked step ask_faults.Memory h steps_are matches answered same =
-      let P : JournalsView → Type 0 = λ w. IsAsked old w (told ++ []) in
-      let Q : List Exchange → Type 0 = λ t. IsAsked old old t in
-      subst P (sym same) (subst Q (sym (append-nil told)) (record { kept = kept; tree = refl }))
-  unasked step (ask_faults.JournalFull part) h steps_are matches answered same =
-      let refuses = told_err (refusal old step) (answer old step) (refusals.JournalFull part) answered in
-      refused step (ask_faults.JournalFull part) h steps_are refuses (matches (faulted old step (ask_faults.JournalFull part) refuses)) same
-  unasked step (ask_faults.Unfounded part number) h steps_are matches answered same =
-      let refuses = told_err (refusal old step) (answer old step) (refusals.Unfounded part number) answered in
-      refused step (ask_faults.Unfounded part number) h steps_are refuses (matches (faulted old step (ask_faults.Unfounded part number) refuses)) same
+      subst (λ (w : JournalsView). IsAsked old w (told ++ [])) (sym same) (subst (λ (t : List Exchange). IsAsked old old t) (sym (append-nil told)) (record { kept = kept; tree = refl }))
+  unasked step fault h steps_are matches answered same =
+      let refuses = told_err (refusal old step) (answer old step) (refusal_of fault) answered in
+      asked h (same ∙ sym (ap (λ (r : Option Refusal). state_at r old (world_with_step old step)) refuses) ∙ ap (λ (s : Step). world_after old s) (sym steps_are)) (matches (faulted old step fault refuses))
 
   pub asked_node : (server : ℕ) (ask : NodeAsk) (answered : Told NodeReply) → IsTold old (steps.Node server ask) (told_step replies.Node answered)
       → OnOk answered (new ≡ world_after old (steps.Node server ask)) → OnErr answered (new ≡ old) → IsAsked old new (told ++ told_exchanges answered (exchanges.Node server ask answered))
@@ -160,6 +150,14 @@ module _ (old new : JournalsView) (told : List Exchange) (kept : IsReplayed (rec
   asked_node server ask (Err fault) is after same =
       unasked (steps.Node server ask) fault (exchanges.Node server ask (Err fault)) refl
       (λ not. sym (ap (λ (f : Option AskFault). told_by f (suc (length (server_journal old server))) (node_entry old server ask).reply) not)) is same
+
+  -- what is noted of an ask by a copy of it is replayed
+  pub noted_node : (server number : ℕ) (ask copy : NodeAsk) (answered : Told NodeReply) (all : List Exchange) → IsTold old (steps.Node server ask) (told_step replies.Node answered)
+      → OnOk answered (new ≡ world_after old (steps.Node server ask)) → OnErr answered (new ≡ old)
+      → all ≡ told ++ told_exchanges answered (exchanges.Node number copy answered) → number ≡ server → copy ≡ ask → IsReplayed (record { journals = new; told = all })
+  noted_node server number ask copy answered all is after same noted numbers copies =
+      subst (λ (t : List Exchange). IsReplayed (record { journals = new; told = t }))
+      (sym (noted ∙ (λ i. told ++ told_exchanges answered (exchanges.Node (numbers i) (copies i) answered)))) (asked_node server ask answered is after same).kept
 
   pub asked_desk : (ask : DeskAsk) (answered : Told DeskReply) → IsTold old (steps.Desk ask) (told_step replies.Desk answered)
       → OnOk answered (new ≡ world_after old (steps.Desk ask)) → OnErr answered (new ≡ old) → IsAsked old new (told ++ told_exchanges answered (exchanges.Desk ask answered))

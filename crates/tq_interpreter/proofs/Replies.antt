@@ -25,9 +25,7 @@ use Rattle.tq_desk.specs.declared.ask.DeskRefusal.{DeskRefusal}
 use Rattle.tq_desk.specs.declared.ask.DeskReply.{DeskReply}
 use Rattle.tq_desk.specs.declared.ask.DeskReply.TheVariants as desk_replies
 use Rattle.tq_desk.specs.DeskStep.{DeskView, desk_refusal, desk_answer, reply_at, desk_reply}
-use Rattle.tq_evidence.specs.declared.grant.Grant.{Grant}
 use Rattle.tq_evidence.specs.declared.op.Op.{Op}
-use Rattle.tq_evidence.specs.declared.vote.Vote.{Vote}
 use Rattle.tq_live.specs.Live.{Live, cost_of, is_up, best}
 use Rattle.tq_live.specs.View.{is_server, are_costs, choice_reply, view_reply}
 use Rattle.tq_live.specs.declared.purpose.Purpose.{Purpose}
@@ -88,26 +86,21 @@ pub or_else_all : {R : Type 0} (P : R → Type 0) (first second : Option R) → 
 or_else_all P None second one other = other
 or_else_all P (Some x) second one other = one
 
-grants_cite : (o : Option Grant) → IfSome (option_map cited_grant o) IsCiting
-grants_cite None = tt
-grants_cite (Some grant) = tt
-
-votes_cite : (o : Option Vote) → IfSome (option_map cited_vote o) IsCiting
-votes_cite None = tt
-votes_cite (Some vote) = tt
+all_cite : {A : Type 0} (cited : A → Citation) (o : Option A) → ((a : A) → IsCiting (cited a)) → IfSome (option_map cited o) IsCiting
+all_cite cited None cite = tt
+all_cite cited (Some a) cite = cite a
 
 ops_cite : (world : JournalsView) (txn : ℕ) (ops : List Op) → IfSome (unfounded_op world txn ops) IsCiting
 ops_cite world txn [] = tt
 ops_cite world txn (op ∷ ops) =
     or_else_all IsCiting (unfounded_grant world txn op.file op.grants) (unfounded_op world txn ops)
-    (grants_cite (find (λ grant. not (is_founded_grant world txn op.file grant)) op.grants)) (ops_cite world txn ops)
+    (all_cite cited_grant (find (λ grant. not (is_founded_grant world txn op.file grant)) op.grants) (λ grant. tt)) (ops_cite world txn ops)
 
 desk_cites : (world : JournalsView) (ask : DeskAsk) → IfSome (unfounded_in_desk_ask world ask) IsCiting
 desk_cites world (desk_asks.Commit txn ops votes) =
     or_else_all IsCiting (unfounded_op world txn ops) (unfounded_vote world txn votes)
-    (ops_cite world txn ops) (votes_cite (find (λ vote. not (is_founded_vote world txn vote)) votes))
-desk_cites world desk_asks.Begin = tt
-desk_cites world (desk_asks.Resolve txn) = tt
+    (ops_cite world txn ops) (all_cite cited_vote (find (λ vote. not (is_founded_vote world txn vote)) votes) (λ vote. tt))
+desk_cites world ask = tt
 
 unless_cites : (founded : Bool) (citation : Citation) → IsCited citation.part → IfSome (unless founded citation) IsCiting
 unless_cites true citation is = tt
@@ -116,16 +109,12 @@ unless_cites false citation is = is
 work_cites : (world : JournalsView) (ask : WorkAsk) → IfSome (unfounded_in_work world ask) IsCiting
 work_cites world (work.Decide txn verdict cite) = unless_cites (is_founded_verdict world txn verdict cite) (record { part = parts.Desk; number = cite }) tt
 work_cites world (work.Refresh file version content from) = unless_cites (is_founded_copy world file version content from) (record { part = parts.Server from.server; number = from.number }) tt
-work_cites world (work.Lock txn file mode) = tt
-work_cites world (work.Prepare txn writes) = tt
-work_cites world (work.Release txn) = tt
-work_cites world (work.Peek file) = tt
+work_cites world ask = tt
 
 node_cites : (world : JournalsView) (ask : NodeAsk) → IfSome (unfounded_in_node_ask world ask) IsCiting
 node_cites world (asks.Work ask) = work_cites world ask
-node_cites world asks.Crash = tt
-node_cites world asks.Return = tt
 node_cites world (asks.CrashIn after ask) = work_cites world ask
+node_cites world ask = tt
 
 -- ---- servers
 
@@ -180,12 +169,9 @@ ended_so txn verdict cite true = tt
 ended_so txn verdict cite false = tt
 
 work_replied : (server : ℕ) (old : Records) (ask : WorkAsk) → IsWorkReply (work_reply server old ask) ask
-work_replied server old (work.Lock txn file mode) = tt
 work_replied server old (work.Prepare txn writes) = refl
 work_replied server old (work.Decide txn verdict cite) = ended_so txn verdict cite (installs server old txn verdict)
-work_replied server old (work.Release txn) = tt
-work_replied server old (work.Peek file) = tt
-work_replied server old (work.Refresh file version content from) = tt
+work_replied server old ask = tt
 
 work_answered : (o : Option NodeRefusal) (reply : NodeReply) (ask : WorkAsk) → IfSome o IsOfWork → IsWorkReply reply ask → IsWorkReply (answer_at o reply) ask
 work_answered None reply ask none is = is
@@ -193,9 +179,7 @@ work_answered (Some reason) reply ask why is = why
 
 node_replies : (server : ℕ) (old : NodeState) (ask : NodeAsk) → IsNodeReply (node_reply server old ask) ask
 node_replies server old (asks.Work ask) = work_answered (work_refusal old.records ask) (work_reply server old.records ask) ask (work_refused old.records ask) (work_replied server old.records ask)
-node_replies server old asks.Crash = tt
-node_replies server old asks.Return = tt
-node_replies server old (asks.CrashIn after ask) = tt
+node_replies server old ask = tt
 
 -- ---- the desk
 

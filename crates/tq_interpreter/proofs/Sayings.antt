@@ -12,6 +12,7 @@ use Rattle.tq_desk.specs.declared.ask.DeskReply.{DeskReply}
 use Rattle.tq_desk.specs.declared.ask.DeskReply.TheVariants as desk_replies
 use Rattle.tq_live.specs.View.{is_server, is_cost}
 use Rattle.tq_live.specs.declared.purpose.Purpose.{Purpose}
+use Rattle.tq_live.specs.declared.view.ViewAsk.{ViewAsk}
 use Rattle.tq_live.specs.declared.view.ViewAsk.TheVariants as view_asks
 use Rattle.tq_live.specs.declared.view.ViewReply.{ViewReply}
 use Rattle.tq_live.specs.declared.view.ViewReply.TheVariants as view_replies
@@ -21,7 +22,7 @@ use Rattle.tq_world.specs.World.{item_at}
 use Rattle.tq_txn.specs.declared.asker.ViewTold.{ViewTold}
 use Rattle.tq_txn.specs.declared.fault.LineFault.{LineFault}
 use Rattle.tq_txn.specs.declared.fault.LineFault.TheVariants as faults
-use Rattle.tq_txn.specs.Dialogue.{Dialogue, LineEnd, Ends, then_line, desk_line, view_line}
+use Rattle.tq_txn.specs.Dialogue.{Dialogue, Ends, then_line, desk_line, view_line}
 use Rattle.tq_txn.specs.Lines.{any_line}
 use Rattle.tq_txn.specs.States.{levels_of}
 use Rattle.tq_syntax.specs.declared.line.Line.{Line}
@@ -33,12 +34,12 @@ use Rattle.tq_text.specs.Print.{printed_line, choice_text}
 use Rattle.tq_interpreter.specs.declared.txn_slot.TxnSlot.{TxnSlot}
 use Rattle.tq_interpreter.specs.Known.{AreOfTree, Known, with_kept}
 use Rattle.tq_interpreter.specs.PossibleTxn.{Fails, IsFit}
-use Rattle.tq_interpreter.specs.TxnAsked.{result_text, line_asked}
+use Rattle.tq_interpreter.specs.TxnAsked.{line_asked}
 use Rattle.tq_interpreter.proofs.Replies.{IsDeskReply, IsViewReply}
 use Rattle.tq_interpreter.proofs.EndsIn.{EndsIn, Answers, IsWell, Any, ends_so, ends_then, desk_ends, view_ends, any_ends}
 use Rattle.tq_interpreter.proofs.Fits.{fit, fits_text}
 use Rattle.tq_interpreter.proofs.Says.{Says, line_says}
-use Rattle.tq_interpreter.specs.Asked.{LineAnswer, text_line, of_txn, ok_text, chosen_text, marked_text, cost_asked, mark_asked, choose_asked, begin_reply, begin_end, begin_asked}
+use Rattle.tq_interpreter.specs.Asked.{LineAnswer, text_line, of_txn, ok_text, chosen_text, marked_text, view_end, cost_asked, mark_asked, choose_asked, begin_reply, begin_end, begin_asked}
 use Rattle.tq_interpreter.specs.Answer.{World, answer}
 use Rattle.tq_interpreter.specs.Possible.{Saying, BadLine, BadCost, OffTree, NotBegun, CostSet, Marked, Chosen, Begun, OfTxn, saying_text, CanCome, IsSaid, IsSaidOf}
 
@@ -46,13 +47,15 @@ use Rattle.tq_interpreter.specs.Possible.{Saying, BadLine, BadCost, OffTree, Not
 abbrev Shows : LineAnswer → Type 0
 Shows answer = (saying : Saying) × CanCome saying × (answer.text ≡ printed_line (saying_text saying))
 
--- a line of one ask shows what it answers, or the fault
-shown_by : {A S : Type 0} (P : A → S → Type 0) (text : A → List ℕ) → ((a : A) (after : S) → P a after → (saying : Saying) × CanCome saying × (text a ≡ saying_text saying))
-    → (known : Known) (end : LineEnd A S) → IsWell P end → Shows (record { text = printed_line (result_text [] text end.answer); known = known })
-shown_by {A} {S} P text step known end well = by end.answer end.after well
+-- an ask of the view shows what it answers, or the fault
+view_says : (levels : ℕ) (ask : ViewAsk) (text : ViewTold → List ℕ) → ((told : ViewTold) → IsViewReply levels told.reply ask → (saying : Saying) × CanCome saying × (text told ≡ saying_text saying))
+    → (known : Known) → EndsIn levels Shows (then_line (view_line ask) (λ end. Ends (view_end known text end)))
+view_says levels ask text step known =
+    ends_then levels (IsWell (λ (told : ViewTold) none. IsViewReply levels told.reply ask)) Shows (view_line ask) (λ end. Ends (view_end known text end))
+    (view_ends levels ask) (λ end well. by end.answer end.after well)
   where
-    by : (answer : Result A LineFault) (after : S) → Answers P answer after → Shows (record { text = printed_line (result_text [] text answer); known = known })
-    by (Ok a) after so = let says = step a after so in (says.0, says.1, ap printed_line says.2)
+    by : (answer : Result ViewTold LineFault) (after : Unit {0}) → Answers (λ (told : ViewTold) none. IsViewReply levels told.reply ask) answer after → Shows (view_end known text (record { answer = answer; after = after }))
+    by (Ok told) after so = let says = step told so in (says.0, says.1, ap printed_line says.2)
     by (Err fault) after possible = (OfTxn (Fails [] fault), possible, refl)
 
 -- ---- the lines of the parts
@@ -60,37 +63,24 @@ shown_by {A} {S} P text step known end well = by end.answer end.after well
 chosen_says : (levels : ℕ) (purpose : Purpose) (reply : ViewReply) → IsViewReply levels reply (view_asks.Choose purpose) → (saying : Saying) × CanCome saying × (choice_text reply ≡ saying_text saying)
 chosen_says levels purpose (view_replies.Chosen quorum cost) is = (Chosen quorum.servers cost, tt, refl)
 chosen_says levels purpose (view_replies.Refused (view_refusals.Blocked blocker)) is = (OfTxn (Fails [] (faults.View (view_refusals.Blocked blocker))), tt, refl)
-chosen_says levels purpose (view_replies.Refused view_refusals.NoSuchServer) is = absurd is
-chosen_says levels purpose (view_replies.Refused view_refusals.BadCost) is = absurd is
-chosen_says levels purpose view_replies.CostSet is = absurd is
-chosen_says levels purpose view_replies.Marked is = absurd is
+chosen_says levels purpose reply is = absurd is
 
 choose_says : (levels : ℕ) (purpose : Purpose) (known : Known) → EndsIn levels Shows (choose_asked known purpose)
-choose_says levels purpose known =
-    ends_then levels (IsWell (λ (told : ViewTold) none. IsViewReply levels told.reply (view_asks.Choose purpose))) Shows (view_line (view_asks.Choose purpose))
-    (λ end. Ends (record { text = printed_line (result_text [] chosen_text end.answer); known = known })) (view_ends levels (view_asks.Choose purpose))
-    (shown_by (λ (told : ViewTold) none. IsViewReply levels told.reply (view_asks.Choose purpose)) chosen_text (λ told none so. chosen_says levels purpose told.reply so) known)
+choose_says levels purpose known = view_says levels (view_asks.Choose purpose) chosen_text (λ told so. chosen_says levels purpose told.reply so) known
 
 cost_says : (levels server read write : ℕ) (known : Known) → EndsIn levels Shows (cost_asked known server read write)
-cost_says levels server read write known =
-    ends_then levels (IsWell (λ (told : ViewTold) none. IsViewReply levels told.reply (view_asks.SetCost server read write))) Shows (view_line (view_asks.SetCost server read write))
-    (λ end. Ends (record { text = printed_line (result_text [] ok_text end.answer); known = known })) (view_ends levels (view_asks.SetCost server read write))
-    (shown_by (λ (told : ViewTold) none. IsViewReply levels told.reply (view_asks.SetCost server read write)) ok_text (λ told none so. (CostSet, tt, refl)) known)
+cost_says levels server read write known = view_says levels (view_asks.SetCost server read write) ok_text (λ told so. (CostSet, tt, refl)) known
 
 mark_says : (levels server : ℕ) (up : Bool) (known : Known) → EndsIn levels Shows (mark_asked known server up)
 mark_says levels server up known =
     ends_then levels (IsWell Any) Shows (any_line server (mark_ask up))
-    (λ any. then_line (view_line (view_asks.Mark server up)) (λ end. Ends (record { text = printed_line (result_text [] (marked_text server up) end.answer); known = known }))) (any_ends levels server (mark_ask up))
-    (λ any so.
-    ends_then levels (IsWell (λ (told : ViewTold) none. IsViewReply levels told.reply (view_asks.Mark server up))) Shows (view_line (view_asks.Mark server up))
-    (λ end. Ends (record { text = printed_line (result_text [] (marked_text server up) end.answer); known = known })) (view_ends levels (view_asks.Mark server up))
-    (shown_by (λ (told : ViewTold) none. IsViewReply levels told.reply (view_asks.Mark server up)) (marked_text server up) (λ told none so. (Marked server up, tt, refl)) known))
+    (λ any. then_line (view_line (view_asks.Mark server up)) (λ end. Ends (view_end known (marked_text server up) end))) (any_ends levels server (mark_ask up))
+    (λ any so. view_says levels (view_asks.Mark server up) (marked_text server up) (λ told so. (Marked server up, tt, refl)) known)
 
 begun_says : (known : Known) (reply : DeskReply) → IsDeskReply reply desk_asks.Begin → Shows (begin_reply known reply)
 begun_says known (desk_replies.Txn number) is = (Begun number, tt, refl)
 begun_says known (desk_replies.Refused refusal) is = (OfTxn (Fails [] (faults.Desk refusal)), tt, refl)
-begun_says known (desk_replies.Verdict verdict) is = absurd is
-begun_says known (desk_replies.Committed serial) is = absurd is
+begun_says known reply is = absurd is
 
 begin_says : (levels : ℕ) (known : Known) → EndsIn levels Shows (begin_asked known)
 begin_says levels known =
@@ -111,16 +101,10 @@ txn_says levels tree line number known (Some kept) same =
 -- ---- all lines
 
 fits : (saying : Saying) → CanCome saying → IsFit (saying_text saying)
-fits BadLine can = fit (saying_text BadLine) refl refl refl
-fits (BadCost cost) can = fit (saying_text (BadCost cost)) refl refl refl
-fits (OffTree server) can = fit (saying_text (OffTree server)) refl refl refl
-fits (NotBegun number) can = fit (saying_text (NotBegun number)) refl refl refl
-fits CostSet can = fit (saying_text CostSet) refl refl refl
 fits (Marked server true) can = fit (saying_text (Marked server true)) refl refl refl
 fits (Marked server false) can = fit (saying_text (Marked server false)) refl refl refl
-fits (Chosen servers cost) can = fit (saying_text (Chosen servers cost)) refl refl refl
-fits (Begun number) can = fit (saying_text (Begun number)) refl refl refl
 fits (OfTxn saying) can = fits_text saying can
+fits saying can = fit (saying_text saying) refl refl refl
 
 said_as : (before after : List ℕ) (answer : LineAnswer) → after ≡ before ++ answer.text → Shows answer → IsSaid before after
 said_as before after answer is shows =
@@ -131,13 +115,9 @@ said_as before after answer is shows =
       fit = fits shows.0 shows.1;
     }
 
-if_server : (levels : ℕ) (there : Bool) (server : ℕ) (known : Known) (line : Dialogue LineAnswer) → EndsIn levels Shows line → EndsIn levels Shows (cond there line (text_line known (saying_text (OffTree server))))
-if_server levels true server known line is = is
-if_server levels false server known line is = (OffTree server, tt, refl)
-
-if_cost : (levels : ℕ) (good : Bool) (cost : ℕ) (known : Known) (line : Dialogue LineAnswer) → EndsIn levels Shows line → EndsIn levels Shows (cond good line (text_line known (saying_text (BadCost cost))))
-if_cost levels true cost known line is = is
-if_cost levels false cost known line is = (BadCost cost, tt, refl)
+if_good : (levels : ℕ) (good : Bool) (saying : Saying) (known : Known) (line : Dialogue LineAnswer) → CanCome saying → EndsIn levels Shows line → EndsIn levels Shows (cond good line (text_line known (saying_text saying)))
+if_good levels true saying known line can is = is
+if_good levels false saying known line can is = (saying, can, refl)
 
 kept_in : (levels : ℕ) (txns : List TxnSlot) (number : ℕ) (kept : TxnSlot) → AreOfTree levels txns → item_at txns number ≡ Some kept → levels_of kept.txn ≡ levels
 kept_in levels txns number kept all is = by (nat_lt 0 number) is
@@ -161,13 +141,13 @@ said_of w (of.Cost server read write) before after all is =
     let line = cond (is_server levels server) (cond (is_cost read) good (text_line w.known (codes "bad cost " ++ decimal read))) (text_line w.known (codes "no such server " ++ decimal server)) in
     said_as before after (run_line w.journals line).end is
     (ends_so Shows line w.journals
-    (if_server w.journals.levels (is_server levels server) server w.known _
-    (if_cost w.journals.levels (is_cost read) read w.known _
-    (if_cost w.journals.levels (is_cost write) write w.known _ (cost_says w.journals.levels server read write w.known)))))
+    (if_good w.journals.levels (is_server levels server) (OffTree server) w.known _ tt
+    (if_good w.journals.levels (is_cost read) (BadCost read) w.known _ tt
+    (if_good w.journals.levels (is_cost write) (BadCost write) w.known _ tt (cost_says w.journals.levels server read write w.known)))))
 said_of w (of.Mark server up) before after all is =
     let line = cond (is_server w.known.levels server) (mark_asked w.known server up) (text_line w.known (codes "no such server " ++ decimal server)) in
     said_as before after (run_line w.journals line).end is
-    (ends_so Shows line w.journals (if_server w.journals.levels (is_server w.known.levels server) server w.known _ (mark_says w.journals.levels server up w.known)))
+    (ends_so Shows line w.journals (if_good w.journals.levels (is_server w.known.levels server) (OffTree server) w.known _ tt (mark_says w.journals.levels server up w.known)))
 said_of w (of.Choose purpose) before after all is =
     said_as before after (run_line w.journals (choose_asked w.known purpose)).end is (ends_so Shows (choose_asked w.known purpose) w.journals (choose_says w.journals.levels purpose w.known))
 said_of w of.Begin before after all is = said_as before after (run_line w.journals (begin_asked w.known)).end is (ends_so Shows (begin_asked w.known) w.journals (begin_says w.journals.levels w.known))
@@ -180,11 +160,10 @@ said_of w (of.Txn number line) before after all is =
 pub tree_known : (journals : JournalsView) (levels : ℕ) (limits : LimitsView) (txns : List TxnSlot) (w : World) → journals.levels ≡ levels → AreOfTree levels txns
     → record { journals = journals; known = record { levels = levels; limits = limits; txns = txns } } ≡ w → AreOfTree w.journals.levels w.known.txns
 tree_known journals levels limits txns w same all is =
-    let On : World → Type 0 = λ v. AreOfTree v.journals.levels v.known.txns in
-    subst On is (subst (λ (l : ℕ). AreOfTree l txns) (sym same) all)
+    subst (λ (v : World). AreOfTree v.journals.levels v.known.txns) is (subst (λ (l : ℕ). AreOfTree l txns) (sym same) all)
 
 -- what was printed of a line, where memory was not refused
-pub said_on : {A E : Type 0} (result : Result A E) (w : World) (line : Line) (before after : List ℕ) → AreOfTree w.journals.levels w.known.txns
-    → OnOk result (after ≡ before ++ (answer w line).text) → OnOk result (IsSaidOf line before after)
-said_on (Ok done) w line before after all is = said_of w line before after all is
-said_on (Err fault) w line before after all is = tt
+pub said_on : {A E : Type 0} (result : Result A E) (line : Line) (before after : List ℕ) (journals : JournalsView) (levels : ℕ) (limits : LimitsView) (txns : List TxnSlot) (w : World) → journals.levels ≡ levels → AreOfTree levels txns
+    → record { journals = journals; known = record { levels = levels; limits = limits; txns = txns } } ≡ w → OnOk result (after ≡ before ++ (answer w line).text) → OnOk result (IsSaidOf line before after)
+said_on (Ok done) line before after journals levels limits txns w same all stands is = said_of w line before after (tree_known journals levels limits txns w same all stands) is
+said_on (Err fault) line before after journals levels limits txns w same all stands is = tt

@@ -107,8 +107,7 @@ abort_says levels number kept =
 resolved_says : (number : ℕ) (reply : DeskReply) → IsDeskReply reply (desk_asks.Resolve number) → IsSayable (resolved_text reply)
 resolved_says number (replies.Verdict verdict) is = (Resolves verdict, tt, refl)
 resolved_says number (replies.Refused refusal) is = (Fails [] (faults.Desk refusal), tt, refl)
-resolved_says number (replies.Txn begun) is = absurd is
-resolved_says number (replies.Committed serial) is = absurd is
+resolved_says number reply is = absurd is
 
 resolve_says : (levels number : ℕ) (kept : TxnSlot) → EndsIn levels Says (resolve_asked number kept)
 resolve_says levels number kept =

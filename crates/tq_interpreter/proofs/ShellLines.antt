@@ -1,12 +1,10 @@
 -- A line of the shell whose asks are the dialogue's is answered so.
-use Rattle.std.proofs.Common.{◌≡◌, ◌∙◌, ◌+◌, ◌-◌, ◌<◌, length, get_or, arith, ℕ, false, List, [], ◌++◌, Result, Ok, Err, refl, sym, ap, subst, inl, inr}
+use Rattle.std.proofs.Common.{◌≡◌, ◌∙◌, ◌+◌, ◌-◌, ◌<◌, length, get_or, arith, ℕ, false, List, [], ◌++◌, Result, Err, refl, sym, ap, inl, inr}
 use Rattle.std.specs.Prelude.{IfOk}
 use Rattle.tq_part.specs.declared.fault.AskFault.{AskFault}
 use Rattle.tq_part.specs.declared.fault.AskFault.TheVariants as ask_faults
 use Rattle.tq_desk.specs.declared.ask.DeskAsk.TheVariants.{Begin}
 use Rattle.tq_txn_states.specs.declared.told.DeskTold.{DeskTold}
-use Rattle.tq_world.specs.World.{empty_world}
-use Rattle.tq_txn.specs.declared.asker.Exchange.{Exchange}
 use Rattle.tq_txn.proofs.LineLaws.{asked_desk}
 use Rattle.tq_tables.specs.Journals.{JournalsView}
 use Rattle.tq_txn.specs.declared.fault.LineFault.{LineFault}
@@ -21,9 +19,9 @@ use Rattle.tq_syntax.specs.declared.line.TxnLine.{TxnLine}
 use Rattle.std.specs.Prelude.{slice_set}
 use Rattle.std.proofs.lemmas.Option.{slice_get_read}
 use Rattle.tq_text.specs.Print.{printed_line}
-use Rattle.tq_interpreter.specs.Recorded.{RecorderView, IsReplayed, Replays, full_limits}
+use Rattle.tq_interpreter.specs.Recorded.{RecorderView, IsReplayed}
 use Rattle.tq_interpreter.specs.Asked.{LineAnswer, begin_end, of_txn}
-use Rattle.tq_interpreter.proofs.Leading.{item_of, ran_as, replays_more, then_ran}
+use Rattle.tq_interpreter.proofs.Leading.{item_of, ran_as, replays_on, then_ran}
 use Rattle.tq_interpreter.proofs.Answered.{got_to, line_ran}
 use Rattle.tq_interpreter.specs.Operators.{refresh_asked}
 use Rattle.tq_interpreter.specs.Asked.{refresh_line, text_answer}
@@ -62,26 +60,11 @@ refresh_answered journals known =
     let ran = then_ran (refresh_asked journals) (text_answer known) journals in
     (ap (λ r. (answer_of_run r).text) (sym ran), ap (λ r. (answer_of_run r).after) (sym ran))
 
--- nothing more was told, and the journals are as they were
-unasked_journals : (old new : RecorderView) → IsReplayed old → IsReplayed new → new.journals.levels ≡ old.journals.levels → new.told ≡ old.told ++ [] → new.journals ≡ old.journals
-unasked_journals old new replayed_old replayed_new levels same =
-    let P : ℕ → Type 0 = λ l. Replays (empty_world l full_limits) new.told new.journals in
-    let Q : List Exchange → Type 0 = λ t. Replays (empty_world old.journals.levels full_limits) t new.journals in
-    replays_more old.told [] (empty_world old.journals.levels full_limits) old.journals new.journals replayed_old (subst Q same (subst P levels replayed_new))
-
 -- the world stands before the line that begins a transaction, or behind it
 pub begun_whole : (old new : RecorderView) (before after : Known) (result : Result DeskTold AskFault) → IsReplayed old → IsReplayed new → new.journals.levels ≡ old.journals.levels → new.told ≡ old.told ++ desk_exchange Begin result → IfOk result (λ told. told.ask ≡ Begin)
     → (begin_end before (line_result result)).known ≡ after → IsWhole (record { journals = old.journals; known = before }) shell_lines.Begin (record { journals = new.journals; known = after })
 begun_whole old new before after (Err ask_faults.Memory) replayed_old replayed_new levels grown same known =
-    inl (λ i. record { journals = unasked_journals old new replayed_old replayed_new levels grown i; known = sym known i })
-begun_whole old new before after (Err (ask_faults.JournalFull part)) replayed_old replayed_new levels grown same known =
-    let result : Result DeskTold AskFault = Err (ask_faults.JournalFull part) in
+    inl (λ i. record { journals = replays_on old new [] replayed_old replayed_new levels grown i; known = sym known i })
+begun_whole old new before after result replayed_old replayed_new levels grown same known =
     let ran = answered_by (desk_line Begin) (λ end. begin_end before end.answer) old new (line_result result) tt replayed_old replayed_new levels (asked_desk Begin result old.told new.told grown same) refl in
-    inr ((λ i. record { journals = new.journals; known = sym known i }) ∙ ran.1)
-begun_whole old new before after (Err (ask_faults.Unfounded part number)) replayed_old replayed_new levels grown same known =
-    let result : Result DeskTold AskFault = Err (ask_faults.Unfounded part number) in
-    let ran = answered_by (desk_line Begin) (λ end. begin_end before end.answer) old new (line_result result) tt replayed_old replayed_new levels (asked_desk Begin result old.told new.told grown same) refl in
-    inr ((λ i. record { journals = new.journals; known = sym known i }) ∙ ran.1)
-begun_whole old new before after (Ok told) replayed_old replayed_new levels grown same known =
-    let ran = answered_by (desk_line Begin) (λ end. begin_end before end.answer) old new (line_result (Ok told)) tt replayed_old replayed_new levels (asked_desk Begin (Ok told) old.told new.told grown same) refl in
     inr ((λ i. record { journals = new.journals; known = sym known i }) ∙ ran.1)

@@ -1,12 +1,12 @@
 use Rattle.std.proofs.Common.{◌≡◌, refl, subst}
 use Rattle.tq_txn.specs.declared.txn.Txn.{Txn}
 use Rattle.tq_txn.specs.Dialogue.{Follows, ended_by}
-use Rattle.tq_interpreter.specs.TxnAsked.{missing_in, serial_text, decision_asked, decision_voting, course_line}
+use Rattle.tq_interpreter.specs.TxnAsked.{answer_end, missing_in, serial_text, decision_asked, decision_voting, course_line}
 use Rattle.tq_interpreter.specs.declared.states.Closed.{Closed}
 use Rattle.tq_interpreter.specs.declared.states.Closed.TheVariants.{Voting}
 use Rattle.tq_interpreter.specs.States.{IsClosed}
 use Rattle.tq_interpreter.specs.Known.{in_state}
-use Rattle.tq_interpreter.proofs.Answered.{answered_as, answered_by}
+use Rattle.tq_interpreter.proofs.Answered.{answered_as, said_by}
 use Rattle.tq_interpreter.proofs.decisions.decide_txn.Goals.{in-Decide, in-Commit}
 use Rattle.tq_interpreter.proofs.decisions.decide_txn.Goals as goal
 
@@ -28,6 +28,6 @@ returns-clause-answered c =
     ] in
     answered_as (decision_asked (course_line c.args.course) 0 kept) (decision_voting (course_line c.args.course) kept c.in-Voting.voting) c.args.recorder.now.journals c.match-course.recorder.journals c.args.text.now.items c.voting_of.new.text.items c.say_committed.new.text.items _
     (closed.2 kept (decision_voting (course_line c.args.course) kept)) closed.0
-    (answered_by (course_line c.args.course c.in-Voting.voting) (in_state kept) missing_in serial_text c.args.recorder.now c.match-course.recorder c.match-course.answer.answer c.match-course.answer.txn
+    (said_by (course_line c.args.course c.in-Voting.voting) (answer_end (in_state kept) missing_in serial_text) c.args.recorder.now c.match-course.recorder c.match-course.answer.answer c.match-course.answer.txn
     c.voting_of.new.text.items c.say_committed.new.text.items (record { txn = c.match-course.answer.txn; told = kept.told }) c.show_replayed.ensures c.show_replayed-2.ensures tree asks c.in_ok-say_committed.ensures.memory
     c.in_ok-say_committed.ensures.text refl)

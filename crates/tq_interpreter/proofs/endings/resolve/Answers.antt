@@ -17,7 +17,6 @@ returns-in_ok-say_resolved-in-Ok-clause-answered c =
 pub returns-in_ok-say_fault-in-Err-clause-answered : goal.returns-in_ok-say_fault-in-Err-clause-answered
 returns-in_ok-say_fault-in-Err-clause-answered c =
     let ask : DeskAsk = Resolve c.args.number in
-    let P : LineFault → Type 0 = λ f. Follows (desk_line ask) c.args.recorder.now.told c.desk-answer.new.self.told (ended_by (Err f) tt) in
     said_by (desk_line ask) (λ end. resolve_end c.args.kept.now end.answer) c.args.recorder.now c.desk-answer.new.self (Err c.from.result) tt c.args.text.now.items c.say_fault.new.text.items c.args.kept.now
-    c.show_replayed.ensures c.show_replayed-2.ensures c.in-Err.ensures.tree (subst P (sym c.from.ensures) (refused_desk ask c.in-Err.fault c.args.recorder.now.told c.desk-answer.new.self.told c.in-Err.ensures.exchanges)) c.in_ok-say_fault-in-Err.ensures.memory
+    c.show_replayed.ensures c.show_replayed-2.ensures c.in-Err.ensures.tree (subst (λ (f : LineFault). Follows (desk_line ask) c.args.recorder.now.told c.desk-answer.new.self.told (ended_by (Err f) tt)) (sym c.from.ensures) (refused_desk ask c.in-Err.fault c.args.recorder.now.told c.desk-answer.new.self.told c.in-Err.ensures.exchanges)) c.in_ok-say_fault-in-Err.ensures.memory
     c.in_ok-say_fault-in-Err.ensures.text refl

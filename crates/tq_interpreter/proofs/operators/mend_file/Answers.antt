@@ -17,16 +17,14 @@ pub mend-requires-clause-of_tree : goal.mend-requires-clause-of_tree
 mend-requires-clause-of_tree c =
     let before = c.loop-server.invariant in
     let On : Server → Type 0 = λ server. server.levels ≡ c.args.up.now.levels in
-    let left = subst (All On) c.in-Some.ensures.steps before.of_tree in
-    (All-head On _ _ left ∙ c.requires.up ∙ sym before.tree, c.requires.planned.1 ∙ sym before.tree)
+    (All-head On _ _ (subst (All On) c.in-Some.ensures.steps before.of_tree) ∙ c.requires.up ∙ sym before.tree, c.requires.planned.1 ∙ sym before.tree)
 
 pub mend-requires-clause-peek : goal.mend-requires-clause-peek
 mend-requires-clause-peek c = c.in_ok-ask.ensures ∙ c.loop-server.invariant.peek
 
 pub loop-server-init : goal.loop-server-init
 loop-server-init c =
-    let has = λ (server : Server). has_number c.args.up.now.numbers server.number in
-    let jobs : List Server → List Job = λ servers. jobs_from c.args.of_file.now.file (filter has servers) (Some c.args.of_file.now.source) in
+    let jobs : List Server → List Job = λ servers. jobs_from c.args.of_file.now.file (filter (λ (server : Server). has_number c.args.up.now.numbers server.number) servers) (Some c.args.of_file.now.source) in
     let start : c.into_iter-server-iterator.result ≡ servers_in c.args.of_file.now.stale = search rules in
     record {
       on = λ more. leads_from (ap (λ servers. jobs servers ++ more) (sym start)) (record { end = refl; after = refl });
@@ -42,18 +40,15 @@ loop-server-init c =
 
 pub loop-server-preserved-then-contains : goal.loop-server-preserved-then-contains
 loop-server-preserved-then-contains c =
-    let has = λ (server : Server). has_number c.args.up.now.numbers server.number in
     let job : Server → Job = λ server. record { file = c.args.of_file.now.file; server = server; source = c.args.of_file.now.source } in
     let before = c.loop-server.invariant in
-    let passes = walks-passes has _ _ _ c.in-Some.ensures.steps job (sym c.contains.ensures ∙ c.if-contains.true) in
-    let long = ap length passes in
+    let passes = walks-passes (λ (server : Server). has_number c.args.up.now.numbers server.number) _ _ _ c.in-Some.ensures.steps job (sym c.contains.ensures ∙ c.if-contains.true) in
     let said = c.in_ok-say_job.ensures.text in
-    let more_text = longer _ _ (job_text (job c.in-Some.server) c.in_ok-refreshed.refreshed) said in
     record {
       on = λ more. one_on _ _ _ _ _ _ _ _ _ (job c.in-Some.server) _ c.in_ok-refreshed.refreshed (leads_from (ap (λ js. js ++ more) passes) (before.on more))
           c.in_ok-refreshed.ensures.value c.in_ok-refreshed.ensures.after said c.from.ensures;
-      jobs = omega (arith, before.jobs, long);
-      fits = (rw c.from.ensures (counted_fits c.in_ok-refreshed.refreshed c.loop-server.counts.mended c.loop-server.counts.jobs before.fits.0), omega (arith, before.fits.1, more_text));
+      jobs = omega (arith, before.jobs, ap length passes);
+      fits = (rw c.from.ensures (counted_fits c.in_ok-refreshed.refreshed c.loop-server.counts.mended c.loop-server.counts.jobs before.fits.0), omega (arith, before.fits.1, longer _ _ (job_text (job c.in-Some.server) c.in_ok-refreshed.refreshed) said));
       of_tree = left_of_tree c.args.up.now.levels _ _ _ c.in-Some.ensures.steps before.of_tree;
       tree = c.in_ok-refreshed.ensures.tree ∙ before.tree;
       peek = before.peek;
@@ -64,10 +59,9 @@ loop-server-preserved-then-contains c =
 
 pub loop-server-preserved : goal.loop-server-preserved
 loop-server-preserved c =
-    let has = λ (server : Server). has_number c.args.up.now.numbers server.number in
     let job : Server → Job = λ server. record { file = c.args.of_file.now.file; server = server; source = c.args.of_file.now.source } in
     let before = c.loop-server.invariant in
-    let passed = walks-passed has _ _ _ c.in-Some.ensures.steps job (sym c.contains.ensures ∙ c.if-contains.false) in
+    let passed = walks-passed (λ (server : Server). has_number c.args.up.now.numbers server.number) _ _ _ c.in-Some.ensures.steps job (sym c.contains.ensures ∙ c.if-contains.false) in
     record {
       on = λ more. leads_from (ap (λ js. js ++ more) passed) (before.on more);
       jobs = ap (λ js. c.loop-server.counts.jobs + length js) (sym passed) ∙ before.jobs;

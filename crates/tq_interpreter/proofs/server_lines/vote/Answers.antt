@@ -1,11 +1,11 @@
-use Rattle.std.proofs.Common.{Some, None, ◌∙◌, ◌++◌, ◌∷◌, [], cond, codes, refl, ap}
+use Rattle.std.proofs.Common.{◌∙◌, ◌++◌, ◌∷◌, [], cond, codes, refl, ap}
 use Rattle.std.specs.Fmt.{decimal}
 use Rattle.tq_txn.specs.declared.txn.Txn.TheVariants as states
 use Rattle.tq_txn.specs.Lines.{prepare_line, prepare_stop_line}
-use Rattle.tq_interpreter.specs.TxnAsked.{prepare_voting, voted_text, stopped_text, down_text, result_text}
+use Rattle.tq_interpreter.specs.TxnAsked.{answer_end, voted_text, stopped_text, down_text, result_text}
 use Rattle.tq_text.specs.Print.{printed_line}
 use Rattle.tq_interpreter.specs.Known.{in_state}
-use Rattle.tq_interpreter.proofs.Answered.{answered_as, answered_by}
+use Rattle.tq_interpreter.proofs.Answered.{said_by}
 use Rattle.tq_interpreter.proofs.server_lines.vote.Goals as goal
 
 pub returns-in_ok-say_server-in-None-clause-answered : goal.returns-in_ok-say_server-in-None-clause-answered
@@ -13,9 +13,8 @@ returns-in_ok-say_server-in-None-clause-answered c =
     λ kept.
     let result = c.prepare_at-answer.result in
     let before = c.args.text.now.items in
-    answered_as (prepare_voting c.args.stop c.args.server.number kept c.args.voting) (prepare_voting None c.args.server.number kept c.args.voting) c.args.recorder.now.journals c.prepare_at-answer.new.asker.journals before before c.say_server.new.text.items _
-    (ap (λ stop. prepare_voting stop c.args.server.number kept c.args.voting) c.in-None.is) refl
-    (answered_by (prepare_line c.args.voting c.args.server.number) (λ new. in_state kept (states.Voting new)) (λ new. c.args.server.number ∷ []) (voted_text c.args.server.number) c.args.recorder.now c.prepare_at-answer.new.asker result c.prepare_at-answer.new.voting
+    rw c.in-None.is
+    (said_by (prepare_line c.args.voting c.args.server.number) (answer_end (λ new. in_state kept (states.Voting new)) (λ new. c.args.server.number ∷ []) (voted_text c.args.server.number)) c.args.recorder.now c.prepare_at-answer.new.asker result c.prepare_at-answer.new.voting
     before c.say_server.new.text.items (in_state kept (states.Voting c.prepare_at-answer.new.voting)) c.show_replayed.ensures c.show_replayed-in-None.ensures c.prepare_at-answer.ensures.tree c.prepare_at-answer.ensures.asks c.in_ok-say_server-in-None.ensures.memory
     (c.in_ok-say_server-in-None.ensures.text ∙ ap (λ n. before ++ printed_line (result_text (n ∷ []) (λ all. codes "yes " ++ decimal n) result)) c.number-number.ensures.value) refl)
 
@@ -24,8 +23,7 @@ returns-in_ok-say_stopped-in-Some-clause-answered c =
     λ kept.
     let result = c.prepare_stopping-answer.result in
     let before = c.args.text.now.items in
-    answered_as (prepare_voting c.args.stop c.args.server.number kept c.args.voting) (prepare_voting (Some c.in-Some.after) c.args.server.number kept c.args.voting) c.args.recorder.now.journals c.prepare_stopping-answer.new.asker.journals before before c.say_stopped.new.text.items _
-    (ap (λ stop. prepare_voting stop c.args.server.number kept c.args.voting) c.in-Some.is) refl
-    (answered_by (prepare_stop_line c.args.voting c.args.server.number c.in-Some.after) (λ new. in_state kept (states.Voting new)) (λ new. c.args.server.number ∷ []) (stopped_text c.args.server.number) c.args.recorder.now c.prepare_stopping-answer.new.asker result c.args.voting
+    rw c.in-Some.is
+    (said_by (prepare_stop_line c.args.voting c.args.server.number c.in-Some.after) (answer_end (λ new. in_state kept (states.Voting new)) (λ new. c.args.server.number ∷ []) (stopped_text c.args.server.number)) c.args.recorder.now c.prepare_stopping-answer.new.asker result c.args.voting
     before c.say_stopped.new.text.items (in_state kept (states.Voting c.args.voting)) c.show_replayed.ensures c.show_replayed-in-Some.ensures c.prepare_stopping-answer.ensures.tree c.prepare_stopping-answer.ensures.asks c.in_ok-say_stopped-in-Some.ensures.memory
     (c.in_ok-say_stopped-in-Some.ensures.text ∙ ap (λ n. before ++ printed_line (result_text (n ∷ []) (λ there. cond there (codes "yes " ++ decimal n) (down_text n)) result)) c.number-number.ensures.value) refl)

@@ -1,34 +1,19 @@
-use Rattle.std.proofs.Common.{◌≡◌, ◌∙◌, ◌++◌, List, append-nil, ap, sym, subst}
-use Rattle.std.specs.List.{flat_map}
-use Rattle.tq_txn.specs.declared.asker.Exchange.{Exchange}
+use Rattle.std.proofs.Common.{◌∙◌, ◌++◌, ap, refl}
 use Rattle.tq_txn.specs.declared.asker.Exchange.TheVariants as exchanges
-use Rattle.tq_interpreter.specs.Recorded.{RecorderView, IsReplayed, told_exchanges}
-use Rattle.tq_interpreter.proofs.Recording.{asked_node}
+use Rattle.tq_interpreter.specs.Recorded.{RecorderView, told_exchanges}
+use Rattle.tq_interpreter.proofs.Recording.{asked_node, handed_is, noted_node}
 use Rattle.tq_interpreter.proofs.recorder.Recorder.put.Goals as goal
 
 pub invariant_of-self : goal.invariant_of-self
 invariant_of-self c =
-    let answer = c.ask_node-answer.result in
     let told = c.self.inside.told.items in
-    let asked = asked_node c.self.inside.service c.ask_node-answer.new.self told c.self.invariant c.args.server.number c.args.ask answer c.ask_node-answer.ensures.told c.ask_node-answer.ensures.after c.ask_node-answer.ensures.err in
-    let P : List Exchange → Type 0 = λ t. IsReplayed (record { journals = c.ask_node-answer.new.self; told = t }) in
-    let is : c.with_handed.result.items ≡ told ++ told_exchanges answer (exchanges.Node c.args.server.number c.args.ask answer) =
-    c.with_handed.ensures
-    ∙ ap (λ n. told ++ flat_map (λ ask. told_exchanges answer (exchanges.Node n ask answer)) c.handed_ask-given.result.items) c.number-number.ensures.value
-    ∙ ap (λ asks. told ++ flat_map (λ ask. told_exchanges answer (exchanges.Node c.args.server.number ask answer)) asks) c.handed_ask-given.ensures
-    ∙ ap (λ last. told ++ last) (append-nil (told_exchanges answer (exchanges.Node c.args.server.number c.args.ask answer))) in
-    subst P (sym is) asked.kept
+    let is = handed_is told c.with_handed.result.items c.args.server.number _ c.args.ask _ c.ask_node-answer.result c.with_handed.ensures c.number-number.ensures.value c.handed_ask-given.ensures in
+    noted_node c.self.inside.service c.ask_node-answer.new.self told c.self.invariant c.args.server.number c.args.server.number c.args.ask c.args.ask c.ask_node-answer.result _ c.ask_node-answer.ensures.told c.ask_node-answer.ensures.after c.ask_node-answer.ensures.err is refl refl
 
 pub returns-clause-exchanges : goal.returns-clause-exchanges
 returns-clause-exchanges c =
-    let answer = c.ask_node-answer.result in
-    let told = c.self.inside.told.items in
-    let is : c.with_handed.result.items ≡ told ++ told_exchanges answer (exchanges.Node c.args.server.number c.args.ask answer) =
-    c.with_handed.ensures
-    ∙ ap (λ n. told ++ flat_map (λ ask. told_exchanges answer (exchanges.Node n ask answer)) c.handed_ask-given.result.items) c.number-number.ensures.value
-    ∙ ap (λ asks. told ++ flat_map (λ ask. told_exchanges answer (exchanges.Node c.args.server.number ask answer)) asks) c.handed_ask-given.ensures
-    ∙ ap (λ last. told ++ last) (append-nil (told_exchanges answer (exchanges.Node c.args.server.number c.args.ask answer))) in
-    is ∙ ap (λ (v : RecorderView). v.told ++ told_exchanges answer (exchanges.Node c.args.server.number c.args.ask answer)) c.self.view_is
+    handed_is c.self.inside.told.items c.with_handed.result.items c.args.server.number _ c.args.ask _ c.ask_node-answer.result c.with_handed.ensures c.number-number.ensures.value c.handed_ask-given.ensures
+    ∙ ap (λ (v : RecorderView). v.told ++ told_exchanges c.ask_node-answer.result (exchanges.Node c.args.server.number c.args.ask c.ask_node-answer.result)) c.self.view_is
 
 pub returns-clause-tree : goal.returns-clause-tree
 returns-clause-tree c =

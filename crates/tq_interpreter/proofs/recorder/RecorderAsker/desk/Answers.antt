@@ -10,8 +10,7 @@ invariant_of-self c =
     let answer = c.ask_desk-answer.result in
     let told = c.self.inside.told.items in
     let asked = asked_desk c.self.inside.service c.ask_desk-answer.new.self told c.self.invariant c.args.ask answer c.ask_desk-answer.ensures.told c.ask_desk-answer.ensures.after c.ask_desk-answer.ensures.err in
-    let P : List Exchange → Type 0 = λ t. IsReplayed (record { journals = c.ask_desk-answer.new.self; told = t }) in
-    subst P (sym (c.with_desk.ensures ∙ ap (λ a. told ++ told_exchanges answer (exchanges.Desk a answer)) c.in_ok-copy.ensures)) asked.kept
+    subst (λ (t : List Exchange). IsReplayed (record { journals = c.ask_desk-answer.new.self; told = t })) (sym (c.with_desk.ensures ∙ ap (λ a. told ++ told_exchanges answer (exchanges.Desk a answer)) c.in_ok-copy.ensures)) asked.kept
 
 pub returns-clause-tree : goal.returns-clause-tree
 returns-clause-tree c =

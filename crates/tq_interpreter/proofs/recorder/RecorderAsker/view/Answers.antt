@@ -8,8 +8,7 @@ pub invariant_of-self : goal.invariant_of-self
 invariant_of-self c =
     let told = c.self.inside.told.items in
     let asked = asked_view c.self.inside.service c.ask_view-answer.new.self told c.self.invariant c.args.ask c.ask_view-answer.result c.ask_view-answer.ensures.told c.ask_view-answer.ensures.after c.ask_view-answer.ensures.err in
-    let P : List Exchange → Type 0 = λ t. IsReplayed (record { journals = c.ask_view-answer.new.self; told = t }) in
-    subst P (sym c.with_view.ensures) asked.kept
+    subst (λ (t : List Exchange). IsReplayed (record { journals = c.ask_view-answer.new.self; told = t })) (sym c.with_view.ensures) asked.kept
 
 pub returns-clause-tree : goal.returns-clause-tree
 returns-clause-tree c =

@@ -10,16 +10,13 @@ use Rattle.tq_interpreter.specs.Known.{Known}
 use Rattle.tq_interpreter.proofs.ShellLines.{answered_by}
 use Rattle.tq_interpreter.proofs.shell.Shell.choose.Goals as goal
 
-pub returns-clause-text : goal.returns-clause-text
-returns-clause-text c =
+pub returns : goal.returns
+returns c =
     let known : Known = record { levels = c.self.inside.levels; limits = c.self.inside.limits; txns = c.self.inside.txns.items } in
     let ask : ViewAsk = asks.Choose c.args.purpose in
     let ran = answered_by (view_line ask) (view_end known chosen_text) c.self.inside.recorder c.view-answer.new.self (line_result c.view-answer.result) tt c.show_replayed.ensures c.show_replayed-2.ensures c.view-answer.ensures.tree (asked_view ask c.view-answer.result c.self.inside.recorder.told c.view-answer.new.self.told c.view-answer.ensures.exchanges c.view-answer.ensures.same) c.in_ok-say_chosen.ensures.memory in
-    c.in_ok-say_chosen.ensures.text ∙ ap (λ t. c.args.text.now.items ++ t) (ran.0 ∙ ap (λ (w : World). (answer_of_run (run_line w.journals (choose_asked w.known c.args.purpose))).text) c.self.view_is)
-
-pub returns-clause-after : goal.returns-clause-after
-returns-clause-after c =
-    let known : Known = record { levels = c.self.inside.levels; limits = c.self.inside.limits; txns = c.self.inside.txns.items } in
-    let ask : ViewAsk = asks.Choose c.args.purpose in
-    let ran = answered_by (view_line ask) (view_end known chosen_text) c.self.inside.recorder c.view-answer.new.self (line_result c.view-answer.result) tt c.show_replayed.ensures c.show_replayed-2.ensures c.view-answer.ensures.tree (asked_view ask c.view-answer.result c.self.inside.recorder.told c.view-answer.new.self.told c.view-answer.ensures.exchanges c.view-answer.ensures.same) c.in_ok-say_chosen.ensures.memory in
-    ran.1 ∙ ap (λ (w : World). (answer_of_run (run_line w.journals (choose_asked w.known c.args.purpose))).after) c.self.view_is
+    record {
+      text = c.in_ok-say_chosen.ensures.text ∙ ap (λ t. c.args.text.now.items ++ t) (ran.0 ∙ ap (λ (w : World). (answer_of_run (run_line w.journals (choose_asked w.known c.args.purpose))).text) c.self.view_is);
+      after = ran.1 ∙ ap (λ (w : World). (answer_of_run (run_line w.journals (choose_asked w.known c.args.purpose))).after) c.self.view_is;
+      kept = tt;
+    }
