@@ -3,9 +3,9 @@
 
 use crate::wrong::Wrong;
 use std::alloc::Global;
-use tq_asks::{NodeAsk, WorkAsk};
-use tq_core::{Refusal, Service, Step};
-use tq_desk::DeskAsk;
+use tq_asks::{NodeAsk, NodeReply, WorkAsk};
+use tq_core::{Refusal, Reply, Service, Step};
+use tq_desk::{DeskAsk, DeskReply};
 use tq_locks::Mode;
 use tq_shape::{Levels, Limits, Memory, Part, Shared};
 use tq_store::FileName;
@@ -70,16 +70,39 @@ fn asks(alloc: Global) -> Result<[NodeAsk; 2], Memory> {
     ])
 }
 
-/// Prints what the step is told, after `Memory` once more.
+/// Prints what the step is told.
 fn tell(rt: &HostRuntime, service: &mut Service, step: Step) -> Result<(), Wrong> {
-    let told = match service.step(rt.alloc(), step) {
-        Ok(_) => "taken",
-        Err(Refusal::Memory) => return Err(Wrong::Memory),
-        Err(Refusal::NoSuchServer) => "no such server",
-        Err(Refusal::JournalFull { part: Part::Desk }) => "journal full desk",
-        Err(Refusal::JournalFull { .. }) => "journal full",
-        Err(Refusal::Unfounded { .. }) => "not founded",
+    match service.step(rt.alloc(), step) {
+        Ok(answer) => tell_reply(rt, &answer.reply),
+        Err(Refusal::Memory) => Err(Wrong::Memory),
+        Err(refusal) => {
+            tell_refusal(rt, refusal);
+            Ok(())
+        }
+    }
+}
+
+/// Prints a reply of those that these steps have.
+fn tell_reply(rt: &HostRuntime, reply: &Reply) -> Result<(), Wrong> {
+    let _printed = match reply {
+        Reply::Desk(DeskReply::Txn(txn)) => println!(rt; "txn {txn}"),
+        Reply::Node(NodeReply::Granted { version, content }) => {
+            println!(rt; "granted version {version} length {}", content.as_bytes().len())
+        }
+        _ => return Err(Wrong::Otherwise),
     };
-    let _printed = println!(rt; "{told}");
     Ok(())
+}
+
+fn tell_refusal(rt: &HostRuntime, refusal: Refusal) {
+    let _printed = match refusal {
+        Refusal::JournalFull { part: Part::Desk } => println!(rt; "journal full desk"),
+        Refusal::JournalFull { part: Part::View } => println!(rt; "journal full view"),
+        Refusal::JournalFull {
+            part: Part::Server(server),
+        } => println!(rt; "journal full server {server}"),
+        Refusal::NoSuchServer => println!(rt; "no such server"),
+        Refusal::Memory => println!(rt; "memory"),
+        Refusal::Unfounded { .. } => println!(rt; "not founded"),
+    };
 }

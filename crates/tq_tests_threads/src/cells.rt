@@ -130,7 +130,7 @@ fn a_cell_is_asked_until_it_is_full(rt: HostRuntime) {
     is_answered(&rt, alloc, &cell, &mut pass, &tally, 5, 1);
     is_answered(&rt, alloc, &cell, &mut pass, &tally, 6, 2);
     is_refused(&rt, alloc, &cell, &mut pass, &tally);
-    assert!(rt; tally.is(3));
+    assert!(rt; tally.is(3, 0, 0));
     tells(&rt, alloc, &cell, 0, 2);
     tells(&rt, alloc, &cell, 1, 1);
     tells(&rt, alloc, &cell, 2, 0);

@@ -250,7 +250,7 @@ fn each_part_takes_as_many_as_the_limit(rt: HostRuntime) {
     let cluster = Cluster::new(alloc, levels, few(), Counted(&tally)).expect(&rt, "memory");
     let text = b"client\nbegin\nbegin\nbegin\ndown 1\nup 1\ndown 1\nup 1\nchoose\n";
     forget(ran(&rt, alloc, &cluster, text, 0, 0));
-    assert!(rt; tally.is(14));
+    assert!(rt; tally.is(5, 5, 4));
     pulls_three(&rt, alloc, &cluster);
     let journals = cluster
         .into_journals(alloc, Vec::new(alloc))

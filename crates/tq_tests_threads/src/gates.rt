@@ -139,7 +139,7 @@ impl<'a> Gate for By<'a> {
     }
 }
 
-/// Counts what a gate is told: each call that holds a lock, and by thousands each that gave it back.
+/// Counts what a gate is told, part by part: each call that holds a lock, and by millions each that gave it back.
 #[derive(Drop)]
 pub(crate) struct Tally(AtomicU64);
 
@@ -148,9 +148,23 @@ impl Tally {
         Tally(AtomicU64::new(0))
     }
 
-    /// So many calls held a lock, and as many gave it back.
-    pub(crate) fn is(&self, calls: u64) -> bool {
-        self.0.load(Ordering::SeqCst) == calls.wrapping_mul(1001)
+    /// So many calls at the desk, at the view and at servers held a lock, and as many gave it back.
+    pub(crate) fn is(&self, desk: u64, view: u64, servers: u64) -> bool {
+        let calls = servers
+            .wrapping_mul(100)
+            .wrapping_add(view)
+            .wrapping_mul(100)
+            .wrapping_add(desk);
+        self.0.load(Ordering::SeqCst) == calls.wrapping_mul(1_000_001)
+    }
+}
+
+/// What a call at the part counts.
+fn weight(part: Part) -> u64 {
+    match part {
+        Part::Desk => 1,
+        Part::View => 100,
+        Part::Server(_) => 10_000,
     }
 }
 
@@ -159,11 +173,13 @@ impl Tally {
 pub(crate) struct Counted<'a>(pub(crate) &'a Tally);
 
 impl<'a> Gate for Counted<'a> {
-    fn holding(&self, _part: Part) {
-        self.0.0.fetch_add(1, Ordering::SeqCst);
+    fn holding(&self, part: Part) {
+        self.0.0.fetch_add(weight(part), Ordering::SeqCst);
     }
 
-    fn answered(&self, _part: Part) {
-        self.0.0.fetch_add(1000, Ordering::SeqCst);
+    fn answered(&self, part: Part) {
+        self.0
+            .0
+            .fetch_add(weight(part).wrapping_mul(1_000_000), Ordering::SeqCst);
     }
 }

@@ -28,7 +28,7 @@ fn answers(alloc: Global, node: &mut Node, entry: &NodeEntry) -> bool {
     }
 }
 
-fn answers_all(alloc: Global, node: &mut Node, entries: &[NodeEntry]) -> bool {
+pub(crate) fn answers_all(alloc: Global, node: &mut Node, entries: &[NodeEntry]) -> bool {
     for entry in entries {
         if !answers(alloc, node, entry) {
             return false;
