@@ -3,7 +3,8 @@
 1. Each tool ends with status 1 and one line where its output is full, and with status 1 where it is closed.
 2. tools/picture draws large boards narrow enough, and counts below what it draws what it does not draw; at three lanes no text is cut.
 3. The page docs/tq.1 keeps to 80 columns, as its text and as groff lays it out where that is there, and has its sections.
-4. tools/board gives the board of random sessions as JSON and back to its text exactly, and refuses what is no board."""
+4. tools/availability: companions/odds_check.py says what.
+5. tools/board gives the board of random sessions as JSON and back to its text exactly, and refuses what is no board."""
 import json
 import os
 import re
@@ -17,6 +18,7 @@ ROOT = os.path.dirname(HERE)
 sys.path[:0] = [f"{ROOT}/tools", f"{ROOT}/sessions"]
 import board as boards
 import journals
+import odds_check
 import plain
 
 SESSIONS = 25
@@ -41,7 +43,7 @@ JOURNALS = f"{ROOT}/examples/journals/stuck.json"
 
 
 def endings():
-    given = {"picture": [JOURNALS], "why": [JOURNALS], "board": []}
+    given = {"picture": [JOURNALS], "why": [JOURNALS], "board": [], "availability": ["--levels", "2"]}
     for name, words in given.items():
         for place, lines in (("/dev/full", 1), ("pipe", 0)):
             near, far = os.pipe()
@@ -50,6 +52,8 @@ def endings():
                 done = subprocess.run([f"tools/{name}", *words], cwd=ROOT, input=BOARD.encode(), stdout=full, stderr=subprocess.PIPE, check=False)
             if done.returncode != 1 or done.stderr.count(b"\n") != lines or b"Traceback" in done.stderr:
                 yield f"tools/{name} at {place}: status {done.returncode}, {done.stderr.decode()}"
+        if name == "availability":
+            continue
         done = ran([f"tools/{name}", "no such file"])
         if done.returncode != 1 or done.stdout or done.stderr.count(b"\n") != 1:
             yield f"tools/{name} without its file: {done}"
@@ -139,5 +143,5 @@ def boards_as_values():
 
 
 def tests(tq):
-    for test in (endings(), drawn_boards(tq), lanes(tq), manual(tq), boards_as_values()):
+    for test in (endings(), drawn_boards(tq), lanes(tq), manual(tq), odds_check.tests(tq), boards_as_values()):
         yield from test
