@@ -4,7 +4,8 @@
 2. tools/picture draws large boards narrow enough, and counts below what it draws what it does not draw; at three lanes no text is cut.
 3. The page docs/tq.1 keeps to 80 columns, as its text and as groff lays it out where that is there, and has its sections.
 4. tools/availability: companions/odds_check.py says what.
-5. tools/board gives the board of random sessions as JSON and back to its text exactly, and refuses what is no board."""
+5. tools/board gives the board of random sessions as JSON and back to its text exactly, and refuses what is no board.
+6. tools/journals: the audit explains the journals of random sessions, and the program answers these and shows the same board."""
 import json
 import os
 import re
@@ -21,7 +22,7 @@ import journals
 import odds_check
 import plain
 
-SESSIONS = 25
+SESSIONS, REHEARSED = 25, 12
 
 
 def ran(words, given=b"", **how):
@@ -43,7 +44,7 @@ JOURNALS = f"{ROOT}/examples/journals/stuck.json"
 
 
 def endings():
-    given = {"picture": [JOURNALS], "why": [JOURNALS], "board": [], "availability": ["--levels", "2"]}
+    given = {"picture": [JOURNALS], "why": [JOURNALS], "board": [], "availability": ["--levels", "2"], "journals": ["--levels", "1"]}
     for name, words in given.items():
         for place, lines in (("/dev/full", 1), ("pipe", 0)):
             near, far = os.pipe()
@@ -54,7 +55,7 @@ def endings():
                 yield f"tools/{name} at {place}: status {done.returncode}, {done.stderr.decode()}"
         if name == "availability":
             continue
-        done = ran([f"tools/{name}", "no such file"])
+        done = ran([f"tools/{name}", *words[:2], "no such file"] if name == "journals" else [f"tools/{name}", "no such file"])
         if done.returncode != 1 or done.stdout or done.stderr.count(b"\n") != 1:
             yield f"tools/{name} without its file: {done}"
 
@@ -142,6 +143,22 @@ def boards_as_values():
             yield f"tools/board of what is no board: {given[:200]} {done}"
 
 
+# Journals of sessions
+
+
+def rehearsed(tq):
+    """Random sessions, each with a board at its end: the program answers them as they are answered here, and its audit explains all entries."""
+    for seed in range(REHEARSED):
+        made = journals.walks().Walk(f"rehearsed {seed}")
+        lines = made.run()[0]
+        lines = lines[: lines.rfind(b"\n") + 1] + b"board\n"
+        told = ran(["tools/journals", "--levels", str(made.levels), "--answers"], lines)
+        shown, said = ran([tq, "shell", "--levels", str(made.levels)], lines).stdout, ran([tq, "audit"], told.stdout).stdout
+        entries = told.stdout.count(b'{"ask":{')
+        if told.stderr != shown or said != f"explained {entries}\n".encode():
+            yield f"tools/journals of session {seed}: the audit says {said}, the program answers {shown[-2000:]}, the plain one {told.stderr[-2000:]}"
+
+
 def tests(tq):
-    for test in (endings(), drawn_boards(tq), lanes(tq), manual(tq), odds_check.tests(tq), boards_as_values()):
+    for test in (endings(), drawn_boards(tq), lanes(tq), manual(tq), odds_check.tests(tq), boards_as_values(), rehearsed(tq)):
         yield from test
