@@ -62,7 +62,7 @@ def is_near(one, other):
 
 
 def majorities(count, costs):
-    """For sets that are up the cheapest majority; it is enough to list those that are a beginning of a set by cost."""
+    """The sets of just more than half of the servers."""
     sets = [[it for it in range(1, count + 1) if bits >> it & 1] for bits in range(0, 2 << count, 2)]
     return by_cost([it for it in sets if len(it) == (count + 1) // 2], costs)
 
@@ -78,9 +78,10 @@ def tree_faults(levels, dice):
         lost = without[at] / up[at][1] if up[at][1] else odds.both_ways([*up[:at], (0.0, 1.0), *up[at + 1 :]])[1][0]
         if not is_near(weight, wanted[0] - lost):
             yield f"tools/odds.py, {levels} levels, {up}: the weight of {at} is {weight}, by enumeration {wanted[0] - lost}"
-    for name, sets in (("majority", majorities), ("one", lambda n, c: by_cost([[it] for it in range(1, n + 1)], c)), ("all", lambda n, c: by_cost([range(1, n + 1)], c))):
+    others = {"majority": majorities(count, costs), "one": by_cost([[it] for it in range(1, count + 1)], costs), "all": by_cost([range(1, count + 1)], costs)}
+    for name, sets in others.items():
         if levels < 4:
-            told, (wanted, _) = getattr(odds, f"of_{name}")(up, costs), enumerated(up, sets(count, costs))
+            told, (wanted, _) = getattr(odds, f"of_{name}")(up, costs), enumerated(up, sets)
             if not all(map(is_near, (told.left, told.none), (wanted[0], 1 - wanted[0]))) or wanted[0] and not all(map(is_near, told[2:], wanted[1:])):
                 yield f"tools/odds.py, {levels} levels, {up}, {costs}: the odds of {name} are {told}, by enumeration {wanted}"
 
@@ -153,8 +154,8 @@ def by_command():
             told, row = odds.of_tree(up, costs), next((it for it in done.stdout.split("\n") if it.startswith(name)), "")
             if row.split()[-4:] != [f"{told.left:.12f}", f"{told.none:.2e}", f"{told.size:.3f}", f"{told.cost:.3f}"]:
                 yield f"tools/availability says {row}, and not {told}; {done.stderr}"
-        refused = (["--levels", "11"], ["--up", "1.1"], ["--up", "x"], ["--costs", paths["bad"]], ["--costs", paths["up"]], ["--up-of", paths["far"]], ["--up-of", folder])
-        for words in refused:
+        refused = [["--levels", "11"], ["--up", "1.1"], ["--up", "x"], ["--costs", paths["bad"]], ["--costs", paths["up"]]]
+        for words in [*refused, ["--up-of", paths["far"]], ["--up-of", folder]]:
             done = ran(["--levels", "3", *words])
             if done.returncode != 2 or done.stdout or "Traceback" in done.stderr:
                 yield f"tools/availability {words} is not refused: {done}"
