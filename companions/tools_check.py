@@ -223,7 +223,7 @@ def shrunk(tq):
         again = tool.Shrinking(small.file, tool.audit_of(tq))
         first, again.audit = again.wanted, judged
         again.shrink()
-        if not again.said.startswith(said) or not first <= small.wanted or small.count() > most or again.file != small.file:
+        if not again.said.startswith(said) or not first & small.wanted or small.count() > most or again.file != small.file:
             yield f"tools/shrink, {spoil.__name__}: {again.said}, {small.count()} entries, {first} of {small.wanted}: {json.dumps(small.file)}"
     for given in (b"", journals.text_of(whole)):
         done = ran(["tools/shrink", "--program", tq], given)
