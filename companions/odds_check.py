@@ -2,9 +2,11 @@
 
 1. By enumeration of all sets of servers that are up, at 1 to 4 levels, with a probability and two costs for each server: how often a quorum is left, its size
    and its cost, for the tree, a majority, one and all; and each server's weight.
-2. By `tq` at ten levels: for sampled failures what `choose` and `choose write` answer is what the sums give where each server is up for certain or down for
+2. By fractions at ten levels: how often a quorum is left, with an error below 1e-12, and how often none is, with such a part of it.
+3. By `tq` at ten levels: for sampled failures what `choose` and `choose write` answer is what the sums give where each server is up for certain or down for
    certain; and over all samples what it hands out is as often and as dear as the sums say, within five deviations.
-3. By the command: its table and its pictures, and what it refuses."""
+4. By the command: its table and its pictures, and what it refuses."""
+import fractions
 import math
 import os
 import random
@@ -93,6 +95,26 @@ def by_enumeration():
             yield from tree_faults(levels, dice)
 
 
+# By fractions, at ten levels
+
+
+def exact(up, at=1):
+    """The probability that a quorum of the subtree is left, without any error."""
+    if 2 * at >= len(up):
+        return up[at]
+    left, right = exact(up, 2 * at), exact(up, 2 * at + 1)
+    return up[at] * (1 - (1 - left) * (1 - right)) + (1 - up[at]) * left * right
+
+
+def by_fractions():
+    dice = random.Random(SEED)
+    for most in (0.5, 0.9, 0.999):
+        up = [None] + [fractions.Fraction(dice.randrange(int(most * 1000), 1001), 1000) for _ in range(1023)]
+        told, wanted = odds.both_ways([None, *((float(p), float(1 - p)) for p in up[1:])])[1], exact(up)
+        if abs(fractions.Fraction(told[0]) - wanted) > ERROR or abs(fractions.Fraction(told[1]) / (1 - wanted) - 1) > ERROR:
+            yield f"tools/odds.py, 10 levels: a quorum is left with {told}, exactly with {float(wanted)}, not with {float(1 - wanted)}"
+
+
 # By the chooser of the product
 
 
@@ -166,5 +188,5 @@ def by_command():
 
 
 def tests(tq):
-    for test in (by_enumeration(), by_chooser(tq), by_command()):
+    for test in (by_enumeration(), by_fractions(), by_chooser(tq), by_command()):
         yield from test
