@@ -204,7 +204,8 @@ def copy_of(stable, file):
 
 def open_votes(stable):
     """The open votes, as (transaction, number): those that are prepared and not gone."""
-    return [record[1:] for record in stable if record[0] == "prepared" and ("gone", *record[1:]) not in stable]
+    gone = {record[1:] for record in stable if record[0] == "gone"}
+    return [record[1:] for record in stable if record[0] == "prepared" and record[1:] not in gone]
 
 
 def vote_of(stable, txn):

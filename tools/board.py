@@ -1,7 +1,7 @@
-"""The board of `tq shell` as values: what bin/live and tools/picture draw.
+"""The board of `tq shell` as values: what bin/live and tools/picture draw, and tools/board hands on.
 
-A board is read from its rows, `board levels L` up to `end`. A server's row has a cost and a least-cost quorum for each purpose; the row of a tree with one
-cost (`cost C MARK least K by S..`) is read as the same for both."""
+A board is read from its rows, `board levels L` up to `end`; other rows raise NotBoard. A server's row has a cost and a least-cost quorum for each purpose;
+the row of a tree with one cost (`cost C MARK least K by S..`) is read as the same for both. `text_of` gives the rows back."""
 import re
 from typing import NamedTuple
 
@@ -11,6 +11,10 @@ SERVER = re.compile(rf"server (\d+) cost (\d+)(?: (\d+))? (up|down) (?:least|rea
 FILE = re.compile(r"file (\S+) version (\d+) current ([\d -]+) stale ([\d -]+)$")
 LOCK = re.compile(r"lock (\d+) (\S+) (\d+) (\S+) since (\d+) version (\d+)$")
 INTENT = re.compile(r"intent (\d+) (\d+) number (\d+) (\S+) (.+)$")
+
+
+class NotBoard(Exception):
+    """Rows that are no board, and why."""
 
 
 class Quorum(NamedTuple):
@@ -92,8 +96,14 @@ class Board:
         read = {kind: [] for kind in kinds}
         for row in rows[1:-1]:
             kind = row.split(" ", 1)[0]
-            read[kind].append(kinds[kind](row))
-        self.levels = int(rows[0].removeprefix(HEAD))
+            try:
+                read[kind].append(kinds[kind](row))
+            except (AttributeError, KeyError):
+                raise NotBoard(f"this is no row of a board: {row}") from None
+        levels = rows[0].removeprefix(HEAD)
+        if not re.fullmatch("[1-9]|10", levels) or [it.number for it in read["server"]] != list(range(1, 2 ** int(levels))):
+            raise NotBoard(f"the rows are not those of the servers of {levels} levels")
+        self.levels = int(levels)
         self.servers = {it.number: it for it in read["server"]}
         self.files, self.locks, self.intents = read["file"], read["lock"], read["intent"]
 
@@ -124,6 +134,32 @@ class Board:
         for it in sorted(self.locks, key=lambda it: (it.txn, it.file, it.mode, it.server)):
             found.setdefault((it.txn, it.file, it.mode), []).append(it.server)
         return found
+
+
+# A board as its rows
+
+
+def listed(items):
+    return " ".join(map(str, items)) or "-"
+
+
+def best_text(best):
+    return f"{best.cost} by {listed(best.servers)}" if best else "none"
+
+
+def text_of(board):
+    """The rows of the board, as `tq shell` prints them."""
+    rows = [f"{HEAD}{board.levels}"]
+    for it in board.servers.values():
+        mark = "up" if it.up else "down"
+        rows.append(f"server {it.number} cost {it.read_cost} {it.write_cost} {mark} read {best_text(it.read)} write {best_text(it.write)}")
+    rows += [f"file {it.name} version {it.version} current {listed(it.current)} stale {listed(it.stale)}" for it in board.files]
+    rows += [f"lock {it.server} {it.file} {it.txn} {it.mode} since {it.since} version {it.version}" for it in board.locks]
+    rows += [f"intent {it.server} {it.txn} number {it.number} {it.state} {listed(it.writes)}" for it in board.intents]
+    return [*rows, END]
+
+
+# Rows in a longer text
 
 
 def last(rows):
