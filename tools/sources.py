@@ -8,8 +8,8 @@ FUNCTION = re.compile(r"(\s*)(pub |pub\(crate\) )?(?:const )?fn (\w+)")
 CLAUSE = re.compile(r"\s*(ensures|requires)\*?(?: local)?(?: ([\w-]+))? \{")
 
 # A function: the type or trait that it is of (None: of none), whether that is a trait, whether it is `pub`, its clauses, premises among them as
-# `requires NAME` (`_` is a clause without a name), and the first sentence of what is said of it.
-Function = collections.namedtuple("Function", "owner name is_of_trait is_pub clauses says")
+# `requires NAME` (`_` is a clause without a name), the first sentence of what is said of it, and its lines.
+Function = collections.namedtuple("Function", "owner name is_of_trait is_pub clauses says lines")
 
 
 def without_generics(text):
@@ -52,9 +52,11 @@ def functions_of(path):
                 said.append(words[1].strip())
             elif name:
                 owner, is_of_trait, is_pub_trait = of if of and name[1] else (None, False, False)
-                found.append(Function(owner, name[3], is_of_trait, name[2] == "pub " or is_pub_trait, [], sentence(said)))
+                found.append(Function(owner, name[3], is_of_trait, name[2] == "pub " or is_pub_trait, [], sentence(said), []))
             if not re.match(r"\s*(//|#)", line):
                 said = []
+            if found:
+                found[-1].lines.append(line)
             clause = CLAUSE.match(line)
             if clause and found:
                 found[-1].clauses.append("requires " * (clause[1] == "requires") + (clause[2] or "_"))
