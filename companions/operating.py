@@ -17,7 +17,7 @@ from live.lines import FORMS, wrong_word
 from live.shell import Shell, Transactions
 from screens import TITLE, WINDOW, put, ran
 
-SESSIONS, LINES, BAD_LINES, SEED, DRILLED = 150, 40, 2_000, 1, 24
+SESSIONS, LINES, BAD_LINES, SEED, DRILLED = 80, 40, 1_500, 1, 24
 
 
 class Watched:
@@ -128,6 +128,10 @@ def bad_lines(tq):
         if is_bad != bool(wrong_word(line)):
             yield f"the hint for {line[:200]!r} is {wrong_word(line)}"
     one.shell.end()
+    told = ['"wrte" begins no line, "write" does', '"A" is no file name', '"x" is no number', "S is missing: down S", '"2" is too much: commit T']
+    for line, hint in zip(["wrte 1 a x", "read 1 A", "up x", "down", "commit 1 2"], told):
+        if hint not in wrong_word(line):
+            yield f"the hint for {line} is {wrong_word(line)}"
     if min(kinds.values()) < BAD_LINES / 10:
         yield f"the lines are of too few kinds: {kinds}"
 
@@ -180,6 +184,7 @@ class Typed:
     def __init__(self, lines, events):
         self.lines, self.events, self.is_silent, self.has_colour, self.is_broken_off = lines, events, False, False, False
         self.remember = self.echo = self.say = lambda _: None
+        self.has_more = lambda: False
 
     def show(self, _):
         self.events.append("frame")

@@ -8,7 +8,7 @@ import subprocess
 import termios
 import time
 
-PATIENCE = 20
+PATIENCE = 60
 
 
 def resize(descriptor, rows, columns):
@@ -60,7 +60,7 @@ class Typist:
 
 def session(live, tq, folder):
     """What is not as it should be."""
-    for name, lines in (("some-lines", "down 2\n"), ("more-lines", "refresh\n" * 500_000)):
+    for name, lines in (("some-lines", "down 2\n"), ("more-lines", "refresh\n" * 100_000)):
         with open(f"{folder}/{name}", "w", encoding="utf-8") as it:
             it.write(lines)
     typist = Typist([live, "--levels", "2", "--program", tq, "--session", f"{folder}/typed"])
@@ -73,7 +73,7 @@ def session(live, tq, folder):
         ("Ctrl-C", lambda: typist.types(b"comm\x03") or typist.awaits(b"Ctrl-D ends", b"> ")),
         ("Tab", lambda: typist.types(b"comm\t 1\r") or typist.awaits(b"committed 1", b"> ")),
         ("Tab behind a word", lambda: typist.types(b":so\t " + folder.encode() + b"/some-l\t\r") or typist.awaits(b"2 of 3 up", b"down 2", b"> ")),
-        ("Ctrl-C in a file", lambda: typist.types(b":source " + folder.encode() + b"/more-lines\r") or typist.awaits(b"taking 500000 lines")),
+        ("Ctrl-C in a file", lambda: typist.types(b":source " + folder.encode() + b"/more-lines\r") or typist.awaits(b"taking 100000 lines")),
         ("its end", lambda: typist.types(b"\x03") or typist.awaits(b"Ctrl-C behind line ", b"not taken", b"> ")),
         ("a plan", lambda: typist.types(b"down 1\r:unblock\r") or typist.awaits(b"NO QUORUM", b"Enter sends 1 line", b"> ")),
         ("its lines", lambda: typist.types(b"\r") or typist.awaits(b"2 of 3 up", b"up 1", b"> ")),

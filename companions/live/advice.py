@@ -15,7 +15,7 @@ HINTS = [
     (r"nothing to commit", "T{txn} has read and written nothing: read or write first, or abort {txn}"),
     (r"no such transaction \d+", "begin begins one"),
     (r"bad cost \d+", "a cost is 1 to 1000000"),
-]  # fmt: skip
+]
 MOST_TOLD = 4
 
 

@@ -137,7 +137,7 @@ def head(board, count):
     elif top.write == top.read:
         told = f"cost {top.read.cost}  quorum {spans(top.read.servers)}"
     else:
-        told = f"cost {top.read.cost} read {top.write.cost} write  read {spans(top.read.servers)}  write {spans(top.write.servers)}"
+        told = f"cost {top.read.cost}/{top.write.cost}  read {spans(top.read.servers)}  write {spans(top.write.servers)}"
     return f" tq  levels {board.levels}  {up} of {len(board.servers)} up  line {count}  {told}"
 
 

@@ -1,6 +1,7 @@
 """Where lines come from and frames go: a terminal, or plain input and output."""
 import glob
 import os
+import select
 import shutil
 import signal
 import sys
@@ -86,6 +87,10 @@ class Terminal:
         finally:
             self.typing = False
 
+    def has_more(self):
+        """Whether a line stands there already, as behind one that was pasted with it."""
+        return bool(select.select([sys.stdin], [], [], 0)[0])
+
     def pages(self, rows, is_last_first):
         """Shows rows page by page: Enter goes on, `b` goes back, `q` ends; each page is cut for the size that the terminal has then."""
         at = None
@@ -149,6 +154,9 @@ class Plain:
         if not line:
             raise EOFError
         return line.removesuffix(b"\n").decode("utf-8", "surrogateescape")
+
+    def has_more(self):
+        return False
 
     def pages(self, rows, _):
         print(*rows, sep="\n", flush=True)

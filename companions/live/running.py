@@ -1,5 +1,6 @@
 """A run of bin/live: lines are taken one by one, typed or from files, and answered by the shell or by this program, and a frame is drawn."""
 import collections
+import itertools
 import os
 import re
 import sys
@@ -9,7 +10,7 @@ from board import Board
 from live import advice
 from live.frame import Screen, Shown
 from live.lines import FORMS
-from live.shell import DONE, Transactions
+from live.shell import DONE, Transactions, is_short, number_of
 
 HELP = """\
 In the tree: [S] both quorums, (S) for reading alone, <S> for writing alone,
@@ -32,6 +33,10 @@ Lines of this program:
 
 # Lines of the shell that only look, which a drill does not count.
 LOOKS = ("board", "choose")
+# How many lines are sent together.
+MOST_AHEAD = 100
+# Lines of this program that look at the board, which is not there where the shell has ended.
+ON_BOARD = (":file", ":top", ":unblock", ":end")
 
 
 def read_lines(path):
@@ -86,7 +91,9 @@ class Live:
         self.open()
         while not self.is_over():
             self.take_queue()
-            self.show()
+            # Of lines that were typed or pasted at once the last alone has a frame.
+            if not self.place.has_more():
+                self.show()
             if self.is_over():
                 break
             try:
@@ -134,8 +141,8 @@ class Live:
             found.append(f"Enter sends {counted(len(self.plan))}, any other line drops that: {', '.join(self.plan)}")
         if self.given.step:
             at = self.steps()
-            next_line = f"Enter takes line {at + 1} of {len(self.script)}: {self.script[at]}" if at < len(self.script) else f"all {at} lines were taken"
-            found.append(f"{next_line}  (b goes back)")
+            told = f"Enter takes line {at + 1} of {len(self.script)}: {printable(self.script[at])}" if at < len(self.script) else f"all {at} lines were taken"
+            found.append(f"{told}  (b goes back)")
         return found + ([self.goal()] if self.drilled is not None else advice.told(self.board, self.txns, *self.last))
 
     # Lines, and where they come from
@@ -160,12 +167,20 @@ class Live:
         if len(self.queue) > 1:
             self.place.say(f"taking {len(self.queue)} lines, Ctrl-C ends that")
         while self.queue and not self.is_over():
+            if not self.shell.sent:
+                self.send_ahead()
             path, number, line = self.queue.popleft()
             self.obey(line)
-            if self.place.is_broken_off:
+            if self.place.is_broken_off and not self.shell.sent:
                 self.tell(f"Ctrl-C behind line {number} of {path}: {counted(len(self.queue))} not taken")
                 self.queue.clear()
                 self.place.is_broken_off = False
+
+    def send_ahead(self):
+        """Sends the next lines together, so that not each waits for the answer before, where nothing hangs on that answer."""
+        if not (self.given.stop or self.session or self.given.drill):
+            ahead = (line for _, _, line in itertools.islice(self.queue, MOST_AHEAD))
+            self.shell.send(list(itertools.takewhile(is_short, ahead)))
 
     def obey(self, line, is_of_script=False):
         """Does what the line says."""
@@ -226,10 +241,11 @@ class Live:
         self.shell.begin_again()
         self.begin()
         for line, is_of_script in kept:
-            if not line.startswith(":"):
-                self.ask(line) if line else None
-            elif line.split(" ")[0] in (":file", ":top", ":rows"):
-                self.own(*line.split(" ", 1))
+            word, *rest = line.split(" ", 1)
+            if word in (":file", ":top", ":rows"):
+                self.own(word, *rest)
+            elif line and line[0] != ":":
+                self.ask(line)
             self.taken.append((line, is_of_script))
 
     def goal(self):
@@ -249,10 +265,10 @@ class Live:
 
     def own(self, word, rest=""):
         """Does a line of this program."""
-        if word in self.own_lines:
-            self.own_lines[word](rest)
-        else:
+        if word not in self.own_lines:
             self.refuse(f"no such line of this program: {word}, see :help")
+        elif word not in ON_BOARD or self.board:
+            self.own_lines[word](rest)
 
     def help(self, _):
         self.place.pages(HELP.split("\n"), False)
@@ -272,7 +288,7 @@ class Live:
             self.refuse(f"no commit wrote {name} yet")
 
     def under(self, number):
-        top = int(number) if number.isdecimal() else 0
+        top = number_of(number)
         if number and top not in self.board.servers:
             self.refuse(f"there is no server {number}: they are 1 to {len(self.board.servers)}")
         else:
@@ -286,7 +302,7 @@ class Live:
             self.tell(f"Enter sends: {', '.join(self.plan)}")
 
     def end(self, number):
-        txn = int(number) if number.isdecimal() else 0
+        txn = number_of(number)
         if txn not in self.txns.states:
             self.refuse(f"there is no transaction {number}")
             return

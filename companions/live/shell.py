@@ -1,4 +1,5 @@
 """A running `tq shell`: the answers of each line, and what they tell of transactions."""
+import collections
 import re
 import subprocess
 
@@ -28,19 +29,25 @@ class Shell:
     def start(self):
         # In a session of its own, so that Ctrl-C at the terminal breaks off a typed line and not the service.
         self.child = subprocess.Popen(self.words, stdin=subprocess.PIPE, stdout=subprocess.PIPE, start_new_session=True)
-        self.has_ended = False
+        self.sent, self.has_ended = collections.deque(), False
+
+    def send(self, lines):
+        """Writes lines that are asked next, in this order. So many that they stand in a pipe, since nobody reads the answers meanwhile."""
+        self.sent.extend(lines)
+        try:
+            self.child.stdin.write("".join(f"{it}\n" for it in lines).encode("utf-8", "surrogateescape"))
+            self.child.stdin.flush()
+        except BrokenPipeError:
+            pass
 
     def ask(self, line):
         """The answers of the line: none of an empty one, several of `board` and `refresh`, else one; fewer where the service ends."""
         bare = line.removesuffix("\r")
         if not bare:
             return []
-        try:
-            self.child.stdin.write(line.encode("utf-8", "surrogateescape") + b"\n")
-            self.child.stdin.flush()
-        except BrokenPipeError:
-            pass
-        got = []
+        if not self.sent:
+            self.send([line])
+        got, _ = [], self.sent.popleft()
         while answer := self.child.stdout.readline().decode("ascii", "replace"):
             got.append(answer.removesuffix("\n"))
             if not FAULT.fullmatch(got[-1]) and (bare not in LAST or LAST[bare].fullmatch(got[-1])):
@@ -49,8 +56,9 @@ class Shell:
         return got
 
     def rest(self):
-        """All that the service still prints, up to its end."""
+        """All that the service still prints, up to its end, which comes with the end of its lines."""
         self.has_ended = True
+        self.child.stdin.close()
         return self.child.stdout.read().decode("ascii", "replace").splitlines()
 
     def end(self):
@@ -93,7 +101,17 @@ class Transactions:
         return [txn for txn, state in self.states.items() if state == "open"]
 
 
+def is_short(line):
+    """Whether the line is the shell's, with one answer, and so short that a hundred of them stand in a pipe."""
+    return bool(line.removesuffix("\r")) and line[0] != ":" and line.removesuffix("\r") not in LAST and len(line) <= 300 and line.isascii()
+
+
 def txn_of(line):
     """The transaction that the line names, None where it names none."""
-    found = re.match(r"(?:read|write|commit|abort|prepare|decide|apply|resolve) (\d+)(?: |$)", line)
-    return int(found[1]) if found else None
+    found = re.match(r"(?:read|write|commit|abort|prepare|decide|apply|resolve) (\S+)", line)
+    return number_of(found[1]) if found else None
+
+
+def number_of(word):
+    """The number that the word is, None where it is none or too long for one."""
+    return int(word) if re.fullmatch(r"[0-9]{1,20}", word) else None
