@@ -8,7 +8,7 @@ import subprocess
 import termios
 import time
 
-PATIENCE = 20
+PATIENCE = 60
 
 
 def resize(descriptor, rows, columns):
@@ -47,32 +47,57 @@ class Typist:
         os.write(self.near, text)
 
     def ends(self):
-        """The status, and whether the terminal is as it was."""
+        """The status, None where the program does not end, and whether the terminal is as it was."""
         try:
             return self.running.wait(PATIENCE), termios.tcgetattr(self.far) == self.before
+        except subprocess.TimeoutExpired:
+            return None, False
         finally:
             self.running.kill()
             os.close(self.near)
             os.close(self.far)
 
 
-def session(live, tq):
+def session(live, tq, folder):
     """What is not as it should be."""
-    typist = Typist([live, "--levels", "2", "--program", tq])
+    for name, lines in (("some-lines", "down 2\n"), ("more-lines", "refresh\n" * 100_000)):
+        with open(f"{folder}/{name}", "w", encoding="utf-8") as it:
+            it.write(lines)
+    typist = Typist([live, "--levels", "2", "--program", tq, "--session", f"{folder}/typed"])
     steps = [
         ("the first frame", lambda: typist.awaits(b"levels 2  3 of 3 up", b"> ")),
-        ("a line", lambda: typist.types(b"begin\r") or typist.awaits(b"line 1", b"begun 1", b"> ")),
+        ("a line", lambda: typist.types(b"begin\r") or typist.awaits(b"line 1 ", b"begun 1", b"> ")),
         ("half a line", lambda: typist.types(b"wri") or typist.awaits(b"wri")),
         ("another size", lambda: resize(typist.near, 20, 60) or typist.awaits(b"-" * 60 + b"\x1b[0m", b"> ", b"wri")),
-        ("the other half", lambda: typist.types(b"te 1 a x\r") or typist.awaits(b"line 2", b"write a version 1 at 1 2", b"> ")),
+        ("the other half", lambda: typist.types(b"te 1 a x\r") or typist.awaits(b"line 2 ", b"write a version 1 at 1 2", b"> ")),
         ("Ctrl-C", lambda: typist.types(b"comm\x03") or typist.awaits(b"Ctrl-D ends", b"> ")),
         ("Tab", lambda: typist.types(b"comm\t 1\r") or typist.awaits(b"committed 1", b"> ")),
+        ("Tab behind a word", lambda: typist.types(b":so\t " + folder.encode() + b"/some-l\t\r") or typist.awaits(b"2 of 3 up", b"down 2", b"> ")),
+        ("Ctrl-C in a file", lambda: typist.types(b":source " + folder.encode() + b"/more-lines\r") or typist.awaits(b"taking 100000 lines")),
+        ("its end", lambda: typist.types(b"\x03") or typist.awaits(b"Ctrl-C behind line ", b"not taken", b"> ")),
+        ("a plan", lambda: typist.types(b"down 1\r:unblock\r") or typist.awaits(b"NO QUORUM", b"Enter sends 1 line", b"> ")),
+        ("its lines", lambda: typist.types(b"\r") or typist.awaits(b"2 of 3 up", b"up 1", b"> ")),
+        ("a page", lambda: typist.types(b":log\r") or typist.awaits(b"up 1", b"b back, q ends ")),
+        ("the page before", lambda: typist.types(b"b\r") or typist.awaits(b"> refresh", b"b back, q ends ")),
+        ("the end of pages", lambda: typist.types(b"q\r") or typist.awaits(b"levels 2", b"> ")),
         ("Ctrl-D", lambda: typist.types(b"\x04") or typist.awaits(b"\x1b[?1049l")),
     ]
-    faults = [name for name, step in steps if not step()]
+    yield from typed(typist, steps)
+    typist = Typist([live, "--levels", "2", "--program", tq, "--session", f"{folder}/typed"])
+    steps = [
+        ("the lines of before", lambda: typist.awaits(b"2 of 3 up", b"lines taken", b"> ")),
+        ("history", lambda: typist.types(b"\x1b[A") or typist.awaits(b"up 1")),
+        ("Ctrl-D", lambda: typist.types(b"\x15\x04") or typist.awaits(b"\x1b[?1049l")),
+    ]
+    yield from typed(typist, steps)
+
+
+def typed(typist, steps):
+    """Whether each step does what it should, and the terminal is left as it was."""
+    failed = next((name for name, step in steps if not step()), None)
     status, is_as_before = typist.ends()
-    if faults or status or not is_as_before:
-        yield f"bin/live at a terminal: failed at {faults}, status {status}, the terminal as it was: {is_as_before}"
+    if failed or status != 0 or not is_as_before:
+        yield f"bin/live at a terminal: failed at {failed}, status {status}, the terminal as it was: {is_as_before}, it shows {typist.all[-2000:]}"
 
 
 def start(words, said):
