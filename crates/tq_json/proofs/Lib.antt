@@ -1,4 +1,5 @@
 mod Digits
+mod Finite
 mod Whole
 pub mod Loops
 pub mod Nexts

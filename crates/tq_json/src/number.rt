@@ -1,6 +1,8 @@
-ghost use Rattle.std.specs.Prelude.{◌≡◌, ◌<◌, ◌==◌, false, true, length, slice_index, Some, IsTrue, IfSome};
+ghost use Rattle.std.specs.Prelude.{◌≡◌, ◌*◌, ◌^◌, ◌<◌, ◌≤◌, ◌==◌, false, true, length, slice_index, Some, IsTrue, IfSome};
+ghost use Rattle.std.specs.Bool.{OnTrue};
 ghost use Rattle.std.specs.Option.{is_some, option_and_then};
-ghost use Rattle.fast_float.specs.Text.{scan};
+ghost use Rattle.std.specs.Str.Parse.{AllDigits, digits_value};
+ghost use Rattle.fast_float.specs.Text.{scan, digits_of, tens_up, tens_down};
 ghost use Rattle.serde_json.specs.Find.{as_u64};
 ghost use Rattle.serde_json.specs.Read.{number_of, number_from, float_of};
 
@@ -8,6 +10,9 @@ use fast_float::Numeral;
 
 /// Whatever so many digits are, the number is below 2^64.
 const SURE_DIGITS: usize = 19;
+
+/// Whatever so many digits before the point are, the number is less than the greatest float.
+const SURE_PLACES: usize = 308;
 
 /// Whether the number that the text writes is in range.
 pub(crate) fn is_in_range(text: &str) -> bool
@@ -38,8 +43,10 @@ pub(crate) fn whole(text: &str) -> Option<u64>
 /// The number that the bytes write, where they are digits alone, and so few that it is below 2^64.
 #[inline(always)]
 fn few_digits(bytes: &[u8]) -> Option<u64>
-    ensures { IfSome result
-        (λ number. Some number ≡ option_and_then as_u64 (number_from false (scan bytes.now))) }
+    ensures some { IfSome result (λ number. 0 < length bytes.now) }
+    ensures few { IfSome result (λ number. length bytes.now ≤ 19) }
+    ensures digits { IfSome result (λ number. AllDigits 10 bytes.now) }
+    ensures value { IfSome result (λ number. number ≡ digits_value 10 bytes.now) }
 {
     let count = bytes.len();
     if count == 0 {
@@ -90,7 +97,37 @@ fn negative_is_in_range(numeral: &Numeral<'_>) -> bool
 fn is_finite(negative: bool, numeral: &Numeral<'_>) -> bool
     ensures { result ≡ is_some (float_of negative numeral.now) }
 {
+    if has_few_places(numeral) {
+        return true;
+    }
     numeral.to_float::<f64>(negative).is_finite()
+}
+
+/// Whether the number has so few digits before the point, where the exponent moves it, that it is less than the greatest float.
+/// This is no conversion, which is dear for a number that lies halfway between two floats.
+fn has_few_places(numeral: &Numeral<'_>) -> bool
+    ensures { OnTrue result
+        (digits_of numeral.now * 10 ^ tens_up numeral.now ≤ 10 ^ 308 * 10 ^ tens_down numeral.now) }
+{
+    let _fraction = numeral.fraction();
+    let places = numeral.whole().len();
+    if places > SURE_PLACES {
+        return false;
+    }
+    if numeral.is_exponent_negative() {
+        return true;
+    }
+    let exponent = numeral.exponent();
+    if exponent.is_empty() {
+        return true;
+    }
+    let Some(tens) = few_digits(exponent) else {
+        return false;
+    };
+    if tens > (SURE_PLACES - places) as u64 {
+        return false;
+    }
+    true
 }
 
 fn has_minus(bytes: &[u8]) -> bool

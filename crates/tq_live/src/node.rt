@@ -1,4 +1,4 @@
-ghost use Rattle.std.specs.Prelude.{◌≡◌, ℕ, ◌+◌, ◌*◌, ◌^◌, ◌<◌, ◌≤◌, IfOk, IfSome, Some, None, List, cond};
+ghost use Rattle.std.specs.Prelude.{◌≡◌, ℕ, ◌+◌, ◌*◌, ◌^◌, ◌<◌, ◌≤◌, IfOk, IfSome, OnOk, Some, None, List, cond};
 ghost use Rattle.tq_shape.specs.Tree.{IsServer};
 ghost use Rattle.tq_shape.specs.ServerSet.{set_with};
 ghost use Rattle.tq_live.specs.Subtree.{Subtree, Alone, Over, leaves};
@@ -67,56 +67,56 @@ impl Model for Node {
 
 impl Node {
     /// So many levels below a server, every server at cost 1 for each purpose and up.
-    pub(crate) fn new(alloc: Global, height: u32) -> Result<Node, Memory>
-        requires { 2 ^ height ≤ 512 }
-        ensures { IfOk result (λ node. node ≡ even height) }
+    pub(crate) fn new(alloc: Global, height: u32, turns: &mut Count) -> Result<Node, Memory>
+        requires few { 2 ^ height ≤ 512 }
+        requires room { turns.old + 2 * 2 ^ height < 2 ^ 64 }
+        ensures node { IfOk result (λ node. node ≡ even height) }
+        ensures turns { OnOk result (turns.new + 1 ≡ turns.old + 2 * 2 ^ height) }
     {
         let costs = Costs::even(1);
-        let cache = Cache::even(alloc, height);
         if height == 0 {
-            return Ok(Node {
-                costs,
-                up: true,
-                cache,
-                below: Below::Nothing,
-            });
+            return Ok(Node::over(costs, true, Below::Nothing, turns));
         }
-        let left = Node::new(alloc, height - 1)?;
-        let right = Node::new(alloc, height - 1)?;
+        let left = Node::new(alloc, height - 1, turns)?;
+        let right = Node::new(alloc, height - 1, turns)?;
         let sides = Box::new(alloc, Sides { left, right })?;
-        Ok(Node {
-            costs,
-            up: true,
-            cache,
-            below: Below::Over(sides),
-        })
+        Ok(Node::over(costs, true, Below::Over(sides), turns))
     }
 
     /// An equal subtree.
-    pub(crate) fn copy(&self, alloc: Global) -> Result<Node, Memory>
-        ensures { IfOk result (λ node. node ≡ self.now) }
+    pub(crate) fn copy(&self, alloc: Global, turns: &mut Count) -> Result<Node, Memory>
+        requires room { turns.old + 2 * leaves self.now < 2 ^ 64 }
+        ensures node { IfOk result (λ node. node ≡ self.now) }
+        ensures turns { OnOk result (turns.new + 1 ≡ turns.old + 2 * leaves self.now) }
     {
         let costs = self.costs;
         let up = self.up;
-        let cache = self.cache.copy(alloc);
+        let _ = &self.cache;
         match &self.below {
-            Below::Nothing => Ok(Node {
-                costs,
-                up,
-                cache,
-                below: Below::Nothing,
-            }),
+            Below::Nothing => Ok(Node::over(costs, up, Below::Nothing, turns)),
             Below::Over(sides) => {
-                let left = sides.left.copy(alloc)?;
-                let right = sides.right.copy(alloc)?;
+                let left = sides.left.copy(alloc, turns)?;
+                let right = sides.right.copy(alloc, turns)?;
                 let sides = Box::new(alloc, Sides { left, right })?;
-                Ok(Node {
-                    costs,
-                    up,
-                    cache,
-                    below: Below::Over(sides),
-                })
+                Ok(Node::over(costs, up, Below::Over(sides), turns))
             }
+        }
+    }
+
+    /// A server of those costs and that mark over its sides.
+    fn over(costs: Costs, up: bool, below: Below, turns: &mut Count) -> Node
+        requires cost { AreLow costs }
+        requires small { leaves (subtree_of costs up below) ≤ 512 }
+        requires room { turns.old + 1 < 2 ^ 64 }
+        ensures node { result ≡ subtree_of costs up below }
+        ensures turns { turns.new ≡ turns.old + 1 }
+    {
+        let cache = Cache::of(costs, up, &below, turns);
+        Node {
+            costs,
+            up,
+            cache,
+            below,
         }
     }
 

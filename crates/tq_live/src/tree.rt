@@ -64,7 +64,8 @@ impl LiveTree {
     pub fn new(alloc: Global, levels: Levels) -> Result<LiveTree, Memory>
         ensures { IfOk result (λ tree. tree ≡ new_live levels) }
     {
-        let root = Node::new(alloc, levels.count() - 1)?;
+        let mut turns = Turns::new();
+        let root = Node::new(alloc, levels.count() - 1, &mut turns.count)?;
         Ok(LiveTree { levels, root })
     }
 
@@ -73,7 +74,9 @@ impl LiveTree {
         ensures { IfOk result (λ tree. tree ≡ self.now) }
     {
         let levels = self.levels;
-        let root = self.root.copy(alloc)?;
+        let _levels = levels.count();
+        let mut turns = Turns::new();
+        let root = self.root.copy(alloc, &mut turns.count)?;
         Ok(LiveTree { levels, root })
     }
 

@@ -1,6 +1,6 @@
 ghost use Rattle.std.specs.Prelude.{◌≡◌, ◌+◌, ◌*◌, ◌^◌, ◌<◌, ◌≤◌, ◌↔◌, IfSome, Some, None, cond, is_some, IsTrue};
 ghost use Rattle.tq_live.specs.Subtree.{Over, leaves};
-ghost use Rattle.tq_live.specs.Kept.{cache_of, column_over, even, least_kept, form_kept};
+ghost use Rattle.tq_live.specs.Kept.{cache_of, column_over, least_kept, form_kept};
 ghost use Rattle.tq_live.specs.Kept.{blocker_weight, IsLight};
 ghost use Rattle.tq_live.specs.Form.{form_of};
 ghost use Rattle.tq_live.specs.Form as spec;
@@ -12,12 +12,10 @@ use crate::node::{Below, Sides};
 use crate::purpose::Purpose;
 use crate::search_for::SearchFor;
 use crate::weight::{Form, Weight};
-use std::alloc::Global;
 use std::marker::Model;
 use tq_shape::Levels;
 
-/// What a server keeps of its subtree. One that stands is written by `repair` alone, and a new one needs an allocator, which
-/// no change of a tree has.
+/// What a server keeps of its subtree. A new one, too, is written by `repair` alone, which counts it.
 #[derive(Debug, Drop)]
 pub(crate) struct Cache {
     /// The cost of the first quorum of least cost to read from, among those that are up.
@@ -97,32 +95,24 @@ impl Turns {
 }
 
 impl Cache {
-    /// That of a server with so many levels below, all at cost 1 for each purpose and up.
-    pub(crate) fn even(_alloc: Global, height: u32) -> Cache
-        requires { 2 ^ height ≤ 512 }
-        ensures { result ≡ cache_of (even height) }
+    /// A new one: that of a server of those costs and that mark, as `repair` writes and counts it.
+    pub(crate) fn of(costs: Costs, up: bool, below: &Below, count: &mut Count) -> Cache
+        requires cost { AreLow costs }
+        requires small { leaves (subtree_of costs up below.now) ≤ 512 }
+        requires room { count.old + 1 < 2 ^ 64 }
+        ensures cache { result ≡ cache_of (subtree_of costs up below.now) }
+        ensures bounded { IsLight (subtree_of costs up below.now) }
+        ensures counted { count.new ≡ count.old + 1 }
     {
-        let least = Weight::of(u64::from(height) + 1);
-        Cache {
-            read: least,
-            write: least,
+        let mut cache = Cache {
+            read: Weight::no_weight(),
+            write: Weight::no_weight(),
             read_form: Form::WithLeft,
             write_form: Form::WithLeft,
             blocker: Form::WithLeft,
-        }
-    }
-
-    /// An equal one.
-    pub(crate) fn copy(&self, _alloc: Global) -> Cache
-        ensures { result ≡ self.now }
-    {
-        Cache {
-            read: self.read,
-            write: self.write,
-            read_form: self.read_form,
-            write_form: self.write_form,
-            blocker: self.blocker,
-        }
+        };
+        repair(&mut cache, costs, up, below, count);
+        cache
     }
 
     /// The cost of the first quorum of least cost for the purpose.
@@ -149,8 +139,8 @@ impl Cache {
     }
 }
 
-/// Writes the cache of a node from its costs, its mark and the caches of its sides, and counts it. Nothing else writes one that
-/// stands, or raises a count.
+/// Writes the cache of a node from its costs, its mark and the caches of its sides, and counts it. Nothing else writes one or
+/// raises a count.
 pub(crate) fn repair(cache: &mut Cache, costs: Costs, up: bool, below: &Below, count: &mut Count)
     requires cost { AreLow costs }
     requires small { leaves (subtree_of costs up below.now) ≤ 512 }

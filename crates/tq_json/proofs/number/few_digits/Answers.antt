@@ -1,6 +1,6 @@
-use Rattle.std.proofs.Common.{◌≡◌, ◌<◌, take, take_all, length, Some, subst, ap, ◌∙◌, arith}
+use Rattle.std.proofs.Common.{◌≡◌, ◌<◌, take, take_all, length, subst, ap, ◌∙◌, arith}
 use Rattle.std.specs.Str.Parse.{AllDigits, digits_value}
-use Rattle.tq_json.proofs.Digits.{one_more, next_number, below_18, few}
+use Rattle.tq_json.proofs.Digits.{one_more, next_number, below_18}
 use Rattle.tq_json.proofs.number.few_digits.Goals as goal
 
 pub overflow_mul-number : goal.overflow_mul-number
@@ -21,10 +21,13 @@ digits-preserved c =
     let digit = c.if-not-is_ascii_digit.ensures.bound in
     (omega arith, one_more bs l.place within l.invariant.1 digit, next_number bs l.place l.number within l.invariant.2 digit)
 
-pub returns : goal.returns
-returns c =
+pub returns-clause-digits : goal.returns-clause-digits
+returns-clause-digits c =
     let l = c.digits in
-    let bs = c.args.bytes.now in
-    let all : take l.place bs ≡ bs = take_all l.place bs (omega arith) in
-    let is : l.number ≡ digits_value 10 bs = l.invariant.2 ∙ ap (digits_value 10) all in
-    ap Some is ∙ few bs (omega arith) (omega arith) (subst (AllDigits 10) all l.invariant.1)
+    let all : take l.place c.args.bytes.now ≡ c.args.bytes.now = take_all l.place c.args.bytes.now (omega arith) in
+    subst (AllDigits 10) all l.invariant.1
+
+pub returns-clause-value : goal.returns-clause-value
+returns-clause-value c =
+    let l = c.digits in
+    l.invariant.2 ∙ ap (digits_value 10) (take_all l.place c.args.bytes.now (omega arith))

@@ -1,9 +1,10 @@
-use Rattle.std.proofs.Common.{◌≡◌, drop, get_or, true, false, ◌==◌, sym, ap, ◌∙◌}
+use Rattle.std.proofs.Common.{◌≡◌, drop, get_or, true, false, ◌==◌, Some, sym, ap, ◌∙◌}
 use Rattle.std.specs.Option.{option_and_then}
 use Rattle.fast_float.specs.Text.{scan}
 use Rattle.serde_json.specs.Find.{as_u64}
 use Rattle.serde_json.specs.Read.{number_of, number_from}
 use Rattle.tq_json.proofs.Whole.{none-negative}
+use Rattle.tq_json.proofs.Digits.{few}
 use Rattle.tq_json.proofs.number.whole.Goals as goal
 
 pub returns-then-has_minus : goal.returns-then-has_minus
@@ -20,7 +21,8 @@ returns-in-Some c =
     let s = c.as_bytes-bytes.result.now in
     let unsigned : (get_or s 0 0 == 45) ≡ false = sym c.if-has_minus.ensures.value in
     let read : number_from false (scan s) ≡ number_of s = rw unsigned in
-    c.in-Some.ensures ∙ ap (option_and_then as_u64) (read ∙ ap number_of c.as_bytes-bytes.ensures.value)
+    let few_enough = few s c.in-Some.ensures.some c.in-Some.ensures.few c.in-Some.ensures.digits in
+    ap Some c.in-Some.ensures.value ∙ few_enough ∙ ap (option_and_then as_u64) (read ∙ ap number_of c.as_bytes-bytes.ensures.value)
 
 pub returns : goal.returns
 unfolding number_of
