@@ -11,15 +11,12 @@ use tq_shape::{Levels, Memory};
 pub(crate) fn are_quorums(alloc: Global, levels: Levels, ops: &[Op]) -> Result<bool, Memory>
     ensures { IfOk result (λ holds. holds ≡ spec.are_quorums levels ops.now) }
 {
-    match ops {
-        [] => Ok(true),
-        [op, ..] => {
-            if !has_quorum(alloc, levels, op)? {
-                return Ok(false);
-            }
-            are_quorums(alloc, levels, &ops[1..])
+    for op in ops {
+        if !has_quorum(alloc, levels, op)? {
+            return Ok(false);
         }
     }
+    Ok(true)
 }
 
 fn has_quorum(alloc: Global, levels: Levels, op: &Op) -> Result<bool, Memory>
