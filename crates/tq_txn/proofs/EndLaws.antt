@@ -23,7 +23,7 @@ use Rattle.tq_txn.specs.declared.txn.Txn.{Txn}
 use Rattle.tq_txn.specs.declared.txn.Txn.TheVariants as states
 use Rattle.tq_txn.specs.Aborts.{resolved_by, resolved_with, txn_after_resolve}
 use Rattle.tq_txn.specs.Commits.{commit_answer}
-use Rattle.tq_txn.specs.Dialogue.{IsUnasked, fault_of_desk, desk_exchange}
+use Rattle.tq_txn.specs.Dialogue.{desk_exchange}
 use Rattle.tq_txn.specs.States.{number_of, levels_of, IsStill}
 use Rattle.tq_txn.specs.Told.{IsAnswered, is_ended, tells_end, EndsWhereTold}
 use Rattle.tq_txn.proofs.LineLaws.{further}
@@ -122,18 +122,3 @@ ends_answered number ask told old new after asked grown ends =
     let same : is_some (verdict_in number told) ≡ list_any (tells_end number) (desk_exchange ask (Ok told)) =
     ap (λ a. is_some (verdict_by number a told.reply)) asked ∙ sym (or-false (is_some (verdict_by number ask told.reply))) in
     (desk_exchange ask (Ok told), grown, λ some. ends (same ∙ some))
-
--- ---- where memory ran out
-
-unasked_desk : (refusal : DeskRefusal) (old new : List Exchange) → IsUnasked {A = ℕ} (Err (fault_of_desk refusal)) old new
-unasked_desk (Decided verdict) old new = tt
-unasked_desk refusal old new = tt
-
-unasked_committed : (reply : DeskReply) (old new : List Exchange) → IsUnasked (commit_answer reply) old new
-unasked_committed (replies.Committed serial) old new = tt
-unasked_committed (replies.Refused refusal) old new = unasked_desk refusal old new
-unasked_committed (replies.Txn number) old new = tt
-unasked_committed (replies.Verdict verdict) old new = tt
-
-pub unasked_answered : (reply : DeskReply) (answer : Result ℕ LineFault) (old new : List Exchange) → answer ≡ commit_answer reply → IsUnasked answer old new
-unasked_answered reply answer old new is = subst (λ a. IsUnasked a old new) (sym is) (unasked_committed reply old new)

@@ -20,14 +20,11 @@ use Rattle.tq_evidence.specs.declared.op.Op.{Op}
 use Rattle.tq_evidence.specs.Evidence.{granters, is_exclusively_granted, is_write, writes_file}
 use Rattle.tq_txn_states.specs.declared.told.NodeTold.{NodeTold}
 use Rattle.tq_txn_states.specs.Cited.{answers_of, grant_told}
-use Rattle.tq_txn_states.specs.Granting.{GrantingView, IsGrown, txn_with_grants}
-use Rattle.tq_txn_states.specs.Sets.{with_number}
 use Rattle.tq_txn_states.specs.Open.{OpenView, IsTouched, has_all_ops, is_member, is_read_of, is_used, is_written, pending_content, op_read, touched_by, op_written}
 use Rattle.tq_txn_states.proofs.Tested.{a_member, rise_too}
 use Rattle.tq_txn.specs.declared.asker.Exchange.{Exchange}
 use Rattle.tq_txn.specs.declared.fault.LineFault.{LineFault}
-use Rattle.tq_txn.specs.declared.fault.LineFault.TheVariants as faults
-use Rattle.tq_txn.specs.Dialogue.{Follows, IsUnasked, line_done, ended_by, node_line}
+use Rattle.tq_txn.specs.Dialogue.{Follows, line_done, ended_by, node_line}
 use Rattle.tq_txn.specs.Lines.{AreOf, LocksView, answers, grant_answer, lock_answer, lock_ask, lock_line, next_lock}
 use Rattle.tq_txn.specs.Told.{answers_in}
 use Rattle.tq_txn.proofs.LineLaws.{follows_answer, follows_end, follows_on}
@@ -42,17 +39,6 @@ granted_is told reply answer is = cc
 pub heard_at : (txn : ℕ) (file : List ℕ) (told : NodeTold) (result : Result (Grant × NodeAsk) LineFault) (new : List Exchange) → lock_answer told told.reply ≡ grant_answer txn file result → Contains (answers_in new) told → IfOk result (λ locked. Contains (answers_in new) (grant_told txn file locked.0))
 heard_at txn file told (Ok locked) new is here = subst (Contains (answers_in new)) (granted_is told told.reply (grant_told txn file locked.0) is) here
 heard_at txn file told (Err fault) new is here = tt
-
--- an answer is not want of memory
-no_want : (told : NodeTold) (reply : NodeReply) → lock_answer told reply ≡ Err faults.Memory → ⊥
-no_want told (replies.Granted version content) is = cc
-no_want told (replies.Refused refusal) is = cc
-no_want told reply is = cc
-
-pub unasked_lock : (txn : ℕ) (file : List ℕ) (told : NodeTold) (result : Result (Grant × NodeAsk) LineFault) (old new : List Exchange) → lock_answer told told.reply ≡ grant_answer txn file result → IsUnasked result old new
-unasked_lock txn file told (Ok locked) old new is = tt
-unasked_lock txn file told (Err faults.Memory) old new is = absurd (no_want told told.reply is)
-unasked_lock txn file told (Err fault) old new is = tt
 
 pub asked_lock : (txn : ℕ) (file : List ℕ) (mode : Mode) (server : ℕ) (told : NodeTold) (result : Result (Grant × NodeAsk) LineFault) (old new : List Exchange) → Follows (node_line server (lock_ask txn file mode)) old new (Some (record { answer = Ok told; after = tt })) → lock_answer told told.reply ≡ grant_answer txn file result → Follows (lock_line txn file mode server) old new (ended_by (grant_answer txn file result) tt)
 asked_lock txn file mode server told result old new first is =
@@ -69,11 +55,6 @@ granters_push before after grant server is same = ap granters is ∙ map-append 
 
 pub modes_push : (mode : Mode) (before after : List Grant) (grant : Grant) → after ≡ before ++ grant ∷ [] → grant.mode ≡ mode → AreOf mode before → AreOf mode after
 modes_push mode before after grant is same all = subst (AreOf mode) (sym is) (All-push (λ (g : Grant). g.mode ≡ mode) before grant all same)
-
--- its server is noted with it
-pub noted_push : (open_txn : OpenView) (before after : GrantingView) (server : ℕ) → IsGrown before after → after.touched.servers ≡ with_number before.touched.servers server → txn_with_grants open_txn after ≡ touched_by (txn_with_grants open_txn before) server
-noted_push open_txn before after server grown is =
-    λ i. record open_txn { ops = grown.ops i; voters = (grown.voters i).servers; touched = is i }
 
 pub next_locked : (file : List ℕ) (mode : Mode) (server txn : ℕ) (old new : LocksView) (answer : NodeTold) (told mid : List Exchange) → txn ≡ old.txn.txn → new.answers ≡ old.answers ++ answer ∷ [] → new.txn ≡ touched_by old.txn server → Follows (lock_line txn file mode server) told mid (Some (record { answer = Ok answer; after = tt })) → Follows (next_lock file mode server old) told mid (Some (record { answer = Ok tt; after = new }))
 next_locked file mode server txn old new answer told mid same more noted first =

@@ -1,5 +1,4 @@
 pub mod LineLaws
-pub mod VoteLaws
 pub mod GrantLaws
 pub mod StopLaws
 pub mod KeptVotes
@@ -9,6 +8,4 @@ pub mod EndLaws
 pub mod Deskless
 pub mod CommitLaws
 pub mod AbortLaws
-pub mod BreakLaws
-pub mod LockBreaks
 pub mod LockingLaws

@@ -1,6 +1,5 @@
 -- What a line asks and answers: a tree of asks with a branch for each answer, and at its ends what the line answers.
 use Rattle.std.specs.Prelude.{◌≡◌, ◌⊎◌, ℕ, Bool, true, false, List, [], ◌∷◌, ◌++◌, Option, Some, None, Result, Ok, Err}
-use Rattle.std.specs.List.{list_all}
 use Rattle.tq_asks.specs.declared.ask.NodeAsk.{NodeAsk}
 use Rattle.tq_asks.specs.declared.ask.NodeReply.{NodeReply}
 use Rattle.tq_desk.specs.declared.ask.DeskAsk.{DeskAsk}
@@ -89,43 +88,6 @@ unless (Some fault) after line = line_failed (faults.Txn fault) after
 abbrev pub ended_by : {A S : Type 0} → Result A LineFault → S → Option (LineEnd A S)
 ended_by (Err faults.Memory) after = None
 ended_by result after = Some (record { answer = result; after = after })
-
--- where memory ran out nothing more was told: no answer came that could be forgotten
-abbrev pub IsUnasked : {A : Type 0} → Result A LineFault → List Exchange → List Exchange → Type 0
-IsUnasked (Err faults.Memory) old new = new ≡ old
-IsUnasked result old new = Unit {0}
-
--- an ask that was not taken
-abbrev pub is_untaken : Exchange → Bool
-is_untaken (exchanges.Node server ask (Err fault)) = true
-is_untaken (exchanges.Desk ask (Err fault)) = true
-is_untaken (exchanges.View ask (Err fault)) = true
-is_untaken exchange = false
-
--- a further ask of the line is still to come: were it not taken, nor any behind it, the line would end so
-abbrev pub WouldEnd : {A S : Type 0} → Dialogue (LineEnd A S) → List Exchange → List Exchange → LineEnd A S → Type 0
-WouldEnd line old new end =
-    (first : Exchange) × (rest : List Exchange) × (list_all is_untaken (first ∷ rest) ≡ true) × Follows line old (new ++ first ∷ rest) (Some end)
-
--- where memory ran out a further ask was still to come, and the state is what that ask, not taken, would leave: so behind
--- its last answer the line does not fail, and no answer that came before is forgotten
-abbrev pub IsUnended : {A S : Type 0} → Result A LineFault → S → Dialogue (LineEnd A S) → List Exchange → List Exchange → Type 0
-IsUnended {A} (Err faults.Memory) after line old new = (answer : Result A LineFault) × WouldEnd line old new (record { answer = answer; after = after })
-IsUnended result after line old new = Unit {0}
-
--- a call asked the line, and ended so
-pub record IsAsked {A S : Type 0} (line : Dialogue (LineEnd A S)) (old new : List Exchange) (result : Result A LineFault) (after : S) : Type 0 where
-  pub asks : Follows line old new (ended_by result after)
-  pub memory : IsUnended result after line old new
-
--- the same of a line that such an ask would end by a fault
-abbrev pub IsUnfailed : {A S : Type 0} → Result A LineFault → S → Dialogue (LineEnd A S) → List Exchange → List Exchange → Type 0
-IsUnfailed (Err faults.Memory) after line old new = (fault : LineFault) × WouldEnd line old new (record { answer = Err fault; after = after })
-IsUnfailed result after line old new = Unit {0}
-
-pub record IsTried {A S : Type 0} (line : Dialogue (LineEnd A S)) (old new : List Exchange) (result : Result A LineFault) (after : S) : Type 0 where
-  pub asks : Follows line old new (ended_by result after)
-  pub memory : IsUnfailed result after line old new
 
 -- ---- faults
 

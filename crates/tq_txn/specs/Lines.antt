@@ -1,5 +1,6 @@
 -- The lines of a client: what each asks, in order, each as the answers before demand, and what it answers of them.
-use Rattle.std.specs.Prelude.{◌≡◌, ◌⊎◌, ◌==◌, ◌+◌, ℕ, Bool, true, false, List, [], ◌∷◌, ◌++◌, Option, Some, None, OnOk, Result, Ok, Err, if◌then◌else◌}
+use Rattle.std.specs.Prelude.{◌≡◌, ◌==◌, ◌+◌, ℕ, Bool, true, false, List, [], ◌∷◌, ◌++◌, Option, Some, None, OnOk, Result, Ok, Err, if◌then◌else◌}
+use Rattle.std.specs.Global.{Vec}
 use Rattle.std.specs.List.{All}
 use Rattle.tq_shape.specs.declared.part.Part.TheVariants as parts
 use Rattle.tq_store.specs.declared.copies.FileCopy.{FileCopy}
@@ -36,10 +37,9 @@ use Rattle.tq_txn.specs.declared.applying.Applied.TheVariants.{Installed, Discar
 use Rattle.tq_txn_states.specs.Cited.{answers_of, grant_told}
 use Rattle.tq_txn_states.specs.Ended.{EndedView, decide_ask}
 use Rattle.tq_txn.specs.declared.asker.Exchange.{Exchange}
-use Rattle.tq_txn.specs.Dialogue.{Told, Dialogue, LineEnd, Ends, AsksNode, Follows, IsUnfailed, line_done, ended_by, line_failed, and_then, unless, node_line, view_line}
+use Rattle.tq_txn.specs.Dialogue.{Told, Dialogue, LineEnd, Ends, AsksNode, Follows, line_done, ended_by, line_failed, and_then, unless, node_line, view_line}
 use Rattle.tq_txn.specs.Told.{AreHeard}
-use Rattle.tq_txn_states.specs.Granting.{GrantingView, IsGrown, txn_with_grants}
-use Rattle.tq_txn_states.specs.Open.{OpenView, pending_content, op_read, op_written, has_all_ops, read_fault, read_copy, read_after, write_fault, write_after, grants_of, touched_by, txn_after_rewrite}
+use Rattle.tq_txn_states.specs.Open.{OpenView, IsTouched, pending_content, op_read, op_written, has_all_ops, read_fault, read_copy, read_after, write_fault, write_after, grants_of, touched_by, txn_after_rewrite}
 use Rattle.tq_txn_states.specs.Voting.{VotingView, has_vote, ask_fault, prepare_work, prepare_ask, vote_fault, vote_after}
 
 -- what a function of the answer says ends the line
@@ -82,15 +82,10 @@ abbrev pub grant_answer : ℕ → List ℕ → Result (Grant × NodeAsk) LineFau
 grant_answer txn file (Ok locked) = Ok (grant_told txn file locked.0)
 grant_answer txn file (Err fault) = Err fault
 
--- the same of what was handed out for the locks
-abbrev pub granting_answer : ℕ → List ℕ → Result GrantingView LineFault → Result (List NodeTold) LineFault
-granting_answer txn file (Ok granting) = Ok (answers_of txn file granting.grants)
-granting_answer txn file (Err fault) = Err fault
-
--- the transaction after the locks, which were handed out what it keeps, unless there was a fault
-abbrev pub txn_after_locks : OpenView → Result GrantingView LineFault → OpenView
-txn_after_locks after (Ok granting) = txn_with_grants after granting
-txn_after_locks after (Err fault) = after
+-- the same of the grants of several servers
+abbrev pub grants_answer : ℕ → List ℕ → Result (Vec Grant) LineFault → Result (List NodeTold) LineFault
+grants_answer txn file (Ok grants) = Ok (answers_of txn file grants.items)
+grants_answer txn file (Err fault) = Err fault
 
 -- how a call ended that hands its ask back
 abbrev pub without_ask : Result NodeAsk LineFault → Result (Unit {0}) LineFault
@@ -113,9 +108,9 @@ pub record LocksView : Type 0 where
   pub answers : List NodeTold
   pub txn : OpenView
 
--- the same of grants that come in for what a transaction handed out
-abbrev pub locks_of : List ℕ → OpenView → GrantingView → LocksView
-locks_of file open_txn granting = record { answers = answers_of open_txn.txn file granting.grants; txn = txn_with_grants open_txn granting }
+-- the same of a transaction and the grants that came in
+abbrev pub locks_of : List ℕ → OpenView → List Grant → LocksView
+locks_of file open_txn grants = record { answers = answers_of open_txn.txn file grants; txn = open_txn }
 
 -- a lock at one more server
 abbrev pub next_lock : List ℕ → Mode → ℕ → LocksView → Dialogue (LineEnd (Unit {0}) LocksView)
@@ -130,26 +125,18 @@ locks_line file mode (server ∷ servers) old = and_then (next_lock file mode se
 
 -- by this line the servers were asked for the lock that is wanted: each that granted it is noted, its answer was told, and
 -- where all did, theirs are the grants that came in
-pub record IsLocking (txn : OpenView) (want : WantedLock) (line : LocksView → Dialogue (LineEnd (Unit {0}) LocksView)) (numbers : List ℕ) (told later : List Exchange) (old new : GrantingView) (result : Result (Unit {0}) LineFault) : Type 0 where
-  pub asks : Follows (line (locks_of want.file txn old)) told later (ended_by result (locks_of want.file txn new))
-  pub memory : IsUnfailed result (locks_of want.file txn new) (line (locks_of want.file txn old)) told later
-  pub grown : IsGrown old new
-  pub heard : AreHeard txn.txn want.file told old.grants → AreHeard txn.txn want.file later new.grants
-  pub servers : OnOk result (granters new.grants ≡ granters old.grants ++ numbers)
-  pub modes : AreOf want.mode old.grants → AreOf want.mode new.grants
+pub record IsLocking (want : WantedLock) (line : LocksView → Dialogue (LineEnd (Unit {0}) LocksView)) (numbers : List ℕ) (told later : List Exchange) (old new : OpenView) (before after : List Grant) (result : Result (Unit {0}) LineFault) : Type 0 where
+  pub asks : Follows (line (locks_of want.file old before)) told later (ended_by result (locks_of want.file new after))
+  pub touched : IsTouched old new
+  pub heard : AreHeard old.txn want.file told before → AreHeard old.txn want.file later after
+  pub servers : OnOk result (granters after ≡ granters before ++ numbers)
+  pub modes : AreOf want.mode before → AreOf want.mode after
 
 -- a quorum from the view for what the locks are for, and a lock at each of its servers: their answers
 abbrev pub quorum_line : List ℕ → Mode → OpenView → Dialogue (LineEnd (List NodeTold) OpenView)
 quorum_line file mode old =
     and_then (choose_line old.levels (purpose_of mode)) (λ none. old)
     (λ servers none. and_then (locks_line file mode servers (record { answers = []; txn = old })) (λ new. new.txn) (λ all new. line_done new.answers new.txn))
-
--- where memory ran out in an operation, its quorum still had an ask to come, or each of its servers has granted the lock and only
--- the operation is not there; each server that granted a lock is noted
-abbrev pub IsNoted : {A : Type 0} → Result A LineFault → OpenView → Dialogue (LineEnd (List NodeTold) OpenView) → List Exchange → List Exchange → Type 0
-IsNoted (Err faults.Memory) after quorum old new =
-    IsUnfailed {A = List NodeTold} (Err faults.Memory) after quorum old new ⊎ ((answers : List NodeTold) × Follows quorum old new (Some (record { answer = Ok answers; after = after })))
-IsNoted result after quorum old new = Unit {0}
 
 -- ---- read
 

@@ -89,8 +89,8 @@ fn told_verdict(verdict: Verdict) -> Resolution
 /// The ending of a transaction that aborted.
 fn end_aborted<A: Asker>(asker: &mut A, alloc: Global, ended: Ended) -> Abortion
     requires { ended.levels ≡ A.levels asker.old }
-    ensures asked { line.IsAsked (spec.ending_of ended)
-        (A.told asker.old) (A.told asker.new) result.answer result.txn }
+    ensures asks { line.Follows (spec.ending_of ended)
+        (A.told asker.old) (A.told asker.new) (line.ended_by result.answer result.txn) }
     ensures same { result.txn ≡ Txn.Ended ended }
     ensures tree { A.levels asker.new ≡ A.levels asker.old }
 {
@@ -115,10 +115,10 @@ fn end_where_aborted<A: Asker>(
     txn: Txn,
 ) -> Abortion
     requires { states.levels_of txn ≡ A.levels asker.old }
-    ensures asked { (reply : DeskReply) → aborts ≡ spec.is_abort reply
+    ensures asks { (reply : DeskReply) → aborts ≡ spec.is_abort reply
         → answer ≡ spec.abort_answer reply
-        → line.IsAsked (spec.abort_end reply txn)
-        (A.told asker.old) (A.told asker.new) result.answer result.txn }
+        → line.Follows (spec.abort_end reply txn)
+        (A.told asker.old) (A.told asker.new) (line.ended_by result.answer result.txn) }
     ensures same { result.txn ≡ txn }
     ensures tree { A.levels asker.new ≡ A.levels asker.old }
 {
@@ -145,8 +145,6 @@ pub fn abort<A: Asker>(asker: &mut A, alloc: Global, txn: Txn) -> Abortion
     requires { states.levels_of txn ≡ A.levels asker.old }
     ensures asks { line.Follows (spec.abort_line txn)
         (A.told asker.old) (A.told asker.new) (line.ended_by result.answer result.txn) }
-    ensures memory { line.IsUnended result.answer result.txn
-        (spec.abort_line txn) (A.told asker.old) (A.told asker.new) }
     ensures levels { states.levels_of result.txn ≡ states.levels_of txn }
     ensures still { states.IsStill txn result.txn }
     ensures verdict { EndsAsTold txn (A.told asker.old) (A.told asker.new) result.txn }
@@ -169,8 +167,8 @@ pub fn abort<A: Asker>(asker: &mut A, alloc: Global, txn: Txn) -> Abortion
 fn resolve_and_end<A: Asker>(asker: &mut A, alloc: Global, txn: Txn, told: DeskTold) -> Abortion
     requires tree { states.levels_of txn ≡ A.levels asker.old }
     requires asked { told.ask ≡ DeskAsk.Resolve (states.number_of txn) }
-    ensures asked { line.IsAsked (spec.abort_end told.reply (spec.txn_after_resolve txn told))
-        (A.told asker.old) (A.told asker.new) result.answer result.txn }
+    ensures asks { line.Follows (spec.abort_end told.reply (spec.txn_after_resolve txn told))
+        (A.told asker.old) (A.told asker.new) (line.ended_by result.answer result.txn) }
     ensures value { result.txn ≡ spec.txn_after_resolve txn told }
     ensures tree { A.levels asker.new ≡ A.levels asker.old }
 {

@@ -28,8 +28,8 @@ fn prepare_each<A: Asker>(
     servers: &[ServerId],
 ) -> Result<(), LineFault>
     requires { list_all (λ id. id.levels == A.levels asker.old) servers.now ≡ true }
-    ensures asked { line.IsTried (spec.prepares_line (numbers_of servers.now) voting.old)
-        (A.told asker.old) (A.told asker.new) result voting.new }
+    ensures asks { line.Follows (spec.prepares_line (numbers_of servers.now) voting.old)
+        (A.told asker.old) (A.told asker.new) (line.ended_by result voting.new) }
     ensures kept { IsVotedOn voting.old voting.new }
     ensures knows { IsKnown Txn.Voting (A.told asker.old) (A.told asker.new) voting.old voting.new }
     ensures tree { A.levels asker.new ≡ A.levels asker.old }
@@ -107,13 +107,10 @@ fn decision_of(ready: Ready, told: DeskTold, cited: SharedSeq<CitedVote>) -> Dec
 pub fn decide<A: Asker>(asker: &mut A, alloc: Global, voting: Voting) -> Decision
     ensures asks { line.Follows (spec.decide_line voting)
         (A.told asker.old) (A.told asker.new) (line.ended_by result.answer result.txn) }
-    ensures memory { line.IsUnfailed result.answer result.txn
-        (spec.decide_line voting) (A.told asker.old) (A.told asker.new) }
     ensures levels { states.levels_of result.txn ≡ voting.txn.levels }
     ensures kept { states.IsGathered voting result.txn }
     ensures verdict { EndsAsTold (Txn.Voting voting)
         (A.told asker.old) (A.told asker.new) result.txn }
-    ensures unasked { line.IsUnasked result.answer (A.told asker.old) (A.told asker.new) }
     ensures ends { EndsWhereTold voting.txn.txn (A.told asker.old) (A.told asker.new) result.txn }
     ensures knows { Knows (A.told asker.old) (Txn.Voting voting)
         → Knows (A.told asker.new) result.txn }
@@ -169,8 +166,6 @@ pub fn commit<A: Asker>(asker: &mut A, alloc: Global, voting: Voting) -> Decisio
     requires { voting.txn.levels ≡ A.levels asker.old }
     ensures asks { line.Follows (spec.commit_line voting)
         (A.told asker.old) (A.told asker.new) (line.ended_by result.answer result.txn) }
-    ensures memory { line.IsUnended result.answer result.txn
-        (spec.commit_line voting) (A.told asker.old) (A.told asker.new) }
     ensures levels { states.levels_of result.txn ≡ voting.txn.levels }
     ensures kept { states.IsGathered voting result.txn }
     ensures verdict { EndsAsTold (Txn.Voting voting)
@@ -209,8 +204,8 @@ pub fn commit<A: Asker>(asker: &mut A, alloc: Global, voting: Voting) -> Decisio
 /// The ending of a transaction that committed.
 fn end_committed<A: Asker>(asker: &mut A, alloc: Global, serial: u64, txn: Txn) -> Decision
     requires { states.levels_of txn ≡ A.levels asker.old }
-    ensures asked { line.IsAsked (spec.commit_end serial txn)
-        (A.told asker.old) (A.told asker.new) result.answer result.txn }
+    ensures asks { line.Follows (spec.commit_end serial txn)
+        (A.told asker.old) (A.told asker.new) (line.ended_by result.answer result.txn) }
     ensures same { result.txn ≡ txn }
     ensures tree { A.levels asker.new ≡ A.levels asker.old }
 {

@@ -5,16 +5,14 @@ ghost use Rattle.tq_txn.specs.Dialogue as line;
 ghost use Rattle.tq_txn.specs.Lines as spec;
 ghost use Rattle.tq_txn.specs.Told.{IsKnown};
 ghost use Rattle.tq_txn.specs.declared.asker.Exchange.{Exchange};
-ghost use Rattle.tq_txn_states.specs.Ballots.{with_ballots};
 ghost use Rattle.tq_txn_states.specs.Cited.{AddsVote};
 ghost use Rattle.tq_txn_states.specs.Ended.{decide_ask};
-ghost use Rattle.tq_txn_states.specs.Voting.{IsVotedOn, IsVoting, has_vote};
+ghost use Rattle.tq_txn_states.specs.Voting.{IsVotedOn, has_vote};
 
 use crate::{Applied, AskFault, Asker, Ended, LineFault, NodeTold, Txn, Voting};
 use std::alloc::{AllocError, Global};
 use tq_asks::{NodeAsk, NodeRefusal, NodeReply, Verdict, WorkAsk};
 use tq_shape::{Memory, Part, ServerId, Shared};
-use tq_txn_states::Ballots;
 
 /// The refusal, where the reply is one.
 fn refusal_in(reply: &NodeReply) -> Option<NodeRefusal>
@@ -27,7 +25,7 @@ fn refusal_in(reply: &NodeReply) -> Option<NodeRefusal>
 }
 
 /// A voter's vote; one that is there is answered with no ask. No vote gathered is lost, and after a fault the
-/// transaction is as it was. All memory is taken before the ask: where it runs out nothing was told.
+/// transaction is as it was.
 pub fn prepare_at<A: Asker>(
     asker: &mut A,
     alloc: Global,
@@ -40,9 +38,6 @@ pub fn prepare_at<A: Asker>(
     ensures txn { voting.new.txn ≡ voting.old.txn }
     ensures kept { IsVotedOn voting.old voting.new }
     ensures knows { IsKnown Txn.Voting (A.told asker.old) (A.told asker.new) voting.old voting.new }
-    ensures unasked { line.IsUnasked result (A.told asker.old) (A.told asker.new) }
-    ensures memory { line.IsUnfailed result voting.new
-        (spec.prepare_line voting.old server.number) (A.told asker.old) (A.told asker.new) }
     ensures err { OnErr result (voting.new ≡ voting.old) }
     ensures tree { A.levels asker.new ≡ A.levels asker.old }
 {
@@ -53,42 +48,30 @@ pub fn prepare_at<A: Asker>(
         Ok(ask) => ask,
         Err(fault) => return Err(LineFault::from(fault)),
     };
-    let ballots = match voting.room_for_vote() {
-        Ok(ballots) => ballots,
-        Err(_) => return Err(LineFault::Memory),
-    };
+    voting.room_for_votes()?;
     match asker.node(alloc, server, ask) {
-        Ok(told) => take_vote(voting, ballots, told),
-        Err(fault) => {
-            voting.put_back(ballots);
-            Err(LineFault::from(fault))
-        }
+        Ok(told) => take_vote(voting, told),
+        Err(fault) => Err(LineFault::from(fault)),
     }
 }
 
-/// Takes the votes back, with the one that a server told, unless it refused. It takes no memory.
+/// Takes the vote that a server told, unless it refused.
 #[inline(always)]
-fn take_vote(voting: &mut Voting, ballots: Ballots, told: NodeTold) -> Result<(), LineFault>
-    requires good { IsVoting (with_ballots voting.old ballots) }
-    requires room { 1 ≤ ballots.room }
-    ensures asks { (exchanges : List Exchange)
-        → line.Follows (spec.vote_answer (with_ballots voting.old ballots) told)
+fn take_vote(voting: &mut Voting, told: NodeTold) -> Result<(), LineFault>
+    ensures asks { (exchanges : List Exchange) → line.Follows (spec.vote_answer voting.old told)
         exchanges exchanges (line.ended_by result voting.new) }
     ensures txn { voting.new.txn ≡ voting.old.txn }
-    ensures kept { has_vote ballots.votes told.server ≡ false
-        → IsVotedOn (with_ballots voting.old ballots) voting.new }
-    ensures cited { AddsVote told (with_ballots voting.old ballots) voting.new }
-    ensures unasked { (before after : List Exchange) → line.IsUnasked result before after }
-    ensures err { OnErr result (voting.new ≡ with_ballots voting.old ballots) }
+    ensures kept { has_vote voting.old.votes told.server ≡ false → IsVotedOn voting.old voting.new }
+    ensures cited { AddsVote told voting.old voting.new }
+    ensures err { OnErr result (voting.new ≡ voting.old) }
 {
     if let Some(refusal) = refusal_in(&told.reply) {
-        voting.put_back(ballots);
         return Err(LineFault::Server {
             server: told.server,
             refusal,
         });
     }
-    match voting.vote_in(ballots, told) {
+    match voting.vote_by(told) {
         Ok(taken) => Ok(taken),
         Err(fault) => Err(LineFault::from(fault)),
     }
@@ -106,7 +89,6 @@ pub fn ask_any<A: Asker>(
         (A.told asker.old) (A.told asker.new) (Some (record { answer = Ok reply; after = tt }))) }
     ensures err { OnErr result (line.Follows (spec.any_line server.number ask)
         (A.told asker.old) (A.told asker.new) None) }
-    ensures unasked { OnErr result (A.told asker.new ≡ A.told asker.old) }
     ensures tree { A.levels asker.new ≡ A.levels asker.old }
 {
     match asker.node(alloc, server, ask) {
@@ -137,8 +119,6 @@ fn release_at<A: Asker>(
     requires { server.levels ≡ A.levels asker.old }
     ensures asks { line.Follows (spec.release_line txn server.number wanted)
         (A.told asker.old) (A.told asker.new) (line.ended_by result tt) }
-    ensures memory { line.IsUnended result tt
-        (spec.release_line txn server.number wanted) (A.told asker.old) (A.told asker.new) }
     ensures tree { A.levels asker.new ≡ A.levels asker.old }
 {
     if !wanted {
@@ -170,8 +150,8 @@ fn end_at<A: Asker>(
 ) -> Result<(), LineFault>
     requires of_tree { server.levels ≡ A.levels asker.old }
     requires decide { decide.now ≡ decide_ask ended.now }
-    ensures asked { line.IsAsked (spec.end_line ended.now server.number)
-        (A.told asker.old) (A.told asker.new) result tt }
+    ensures asks { line.Follows (spec.end_line ended.now server.number)
+        (A.told asker.old) (A.told asker.new) (line.ended_by result tt) }
     ensures tree { A.levels asker.new ≡ A.levels asker.old }
 {
     let ask = decide_again(ended, decide)?;
@@ -191,8 +171,8 @@ fn end_by<A: Asker>(
 ) -> Result<(), LineFault>
     requires of_tree { list_all (λ id. id.levels == A.levels asker.old) servers.now ≡ true }
     requires decide { decide.now ≡ decide_ask ended.now }
-    ensures asked { line.IsAsked (spec.ending_line ended.now (numbers_of servers.now))
-        (A.told asker.old) (A.told asker.new) result tt }
+    ensures asks { line.Follows (spec.ending_line ended.now (numbers_of servers.now))
+        (A.told asker.old) (A.told asker.new) (line.ended_by result tt) }
     ensures tree { A.levels asker.new ≡ A.levels asker.old }
 {
     for server in servers {
@@ -209,8 +189,8 @@ pub(crate) fn end_at_each<A: Asker>(
     servers: &[ServerId],
 ) -> Result<(), LineFault>
     requires { list_all (λ id. id.levels == A.levels asker.old) servers.now ≡ true }
-    ensures asked { line.IsAsked (spec.ending_line ended.now (numbers_of servers.now))
-        (A.told asker.old) (A.told asker.new) result tt }
+    ensures asks { line.Follows (spec.ending_line ended.now (numbers_of servers.now))
+        (A.told asker.old) (A.told asker.new) (line.ended_by result tt) }
     ensures tree { A.levels asker.new ≡ A.levels asker.old }
 {
     if servers.is_empty() {
@@ -252,8 +232,6 @@ pub fn apply_at<A: Asker>(
     requires { server.levels ≡ A.levels asker.old }
     ensures asks { line.Follows (spec.apply_line txn verdict cite server.number)
         (A.told asker.old) (A.told asker.new) (line.ended_by result tt) }
-    ensures memory { line.IsUnfailed result tt
-        (spec.apply_line txn verdict cite server.number) (A.told asker.old) (A.told asker.new) }
     ensures tree { A.levels asker.new ≡ A.levels asker.old }
 {
     let decide = WorkAsk::Decide { txn, verdict, cite };

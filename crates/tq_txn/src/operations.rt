@@ -1,13 +1,11 @@
 ghost use Rattle.std.specs.List.{list_all, Contains};
 ghost use Rattle.std.specs.Prelude.{◌≡◌, ◌==◌, ◌+◌, ◌<◌, ◌≤◌, ℕ, List, [], ◌∷◌, Ok, Err, true, length, IfOk, OnErr, OnOk, ◌++◌, false};
 ghost use Rattle.tq_coterie.specs.Coterie.{numbers_of};
-ghost use Rattle.tq_evidence.specs.Evidence.{granters};
 ghost use Rattle.tq_txn.specs.Dialogue as line;
 ghost use Rattle.tq_txn.specs.Lines as spec;
 ghost use Rattle.tq_txn.specs.Lines.{IsLocking};
 ghost use Rattle.tq_txn.specs.Told.{AreHeard, IsKnown, answers_in};
 ghost use Rattle.tq_txn_states.specs.Cited.{grant_told};
-ghost use Rattle.tq_txn_states.specs.Granting as handed;
 ghost use Rattle.tq_txn_states.specs.Open as open_spec;
 
 use crate::{Asker, LineFault, NodeTold, Open, ReadAnswer, Txn, TxnFault};
@@ -19,7 +17,6 @@ use tq_live::{Purpose, ViewAsk, ViewReply};
 use tq_locks::Mode;
 use tq_shape::{Levels, Memory, Part, ServerId, Shared};
 use tq_store::{Content, FileCopy, FileName};
-use tq_txn_states::Granting;
 
 /// Whether the servers are of a tree of these levels.
 fn are_of(levels: Levels, servers: &[ServerId]) -> bool
@@ -67,7 +64,6 @@ fn choose<A: Asker>(
 ) -> Result<Quorum, LineFault>
     ensures asks { line.Follows (spec.choose_line levels purpose)
         (A.told asker.old) (A.told asker.new) (line.ended_by (spec.servers_of result) tt) }
-    ensures unasked { line.IsUnasked result (A.told asker.old) (A.told asker.new) }
     ensures quorum { IfOk result (λ quorum. quorum.levels ≡ levels) }
     ensures tree { A.levels asker.new ≡ A.levels asker.old }
 {
@@ -133,7 +129,6 @@ fn lock_at<A: Asker>(
     ensures asks { line.Follows (spec.lock_line txn lock.now.file lock.now.mode server.number)
         (A.told asker.old) (A.told asker.new)
         (line.ended_by (spec.grant_answer txn lock.now.file result) tt) }
-    ensures unasked { line.IsUnasked result (A.told asker.old) (A.told asker.new) }
     ensures heard { IfOk result (λ locked.
         Contains (answers_in (A.told asker.new)) (grant_told txn lock.now.file locked.0)) }
     ensures grant { IfOk result (λ locked. spec.IsLockAt server.number lock.now.mode locked.0) }
@@ -146,36 +141,36 @@ fn lock_at<A: Asker>(
     }
 }
 
-/// A lock at one more server by this ask, which is handed back. The server is noted if it granted the lock: where memory
-/// runs out, it was not asked, or did not answer.
+/// A lock at one more server by this ask, which is handed back. The server is noted if it granted the lock: room for that
+/// was made before it was asked.
 fn lock_next<A: Asker>(
     asker: &mut A,
     alloc: Global,
-    open: &Open,
+    open: &mut Open,
     lock: &WantedLock,
     server: ServerId,
     ask: NodeAsk,
-    granting: &mut Granting,
+    grants: &mut Vec<Grant>,
 ) -> Result<NodeAsk, LineFault>
-    requires same { open.now.levels ≡ A.levels asker.old }
+    requires same { open.old.levels ≡ A.levels asker.old }
     requires of_tree { server.levels ≡ A.levels asker.old }
-    requires ask { ask ≡ spec.lock_ask open.now.txn lock.now.file lock.now.mode }
-    requires room { handed.CanGrant open.now.levels granting.old (server.number ∷ []) }
-    ensures locks { IsLocking open.now lock.now
+    requires ask { ask ≡ spec.lock_ask open.old.txn lock.now.file lock.now.mode }
+    ensures locks { IsLocking lock.now
         (spec.next_lock lock.now.file lock.now.mode server.number) (server.number ∷ [])
-        (A.told asker.old) (A.told asker.new) granting.old granting.new (spec.without_ask result) }
-    ensures room { OnOk result ((more : List ℕ)
-        → handed.CanGrant open.now.levels granting.old (server.number ∷ more)
-        → handed.CanGrant open.now.levels granting.new more) }
-    ensures ask { IfOk result (λ it. it ≡ spec.lock_ask open.now.txn lock.now.file lock.now.mode) }
+        (A.told asker.old) (A.told asker.new) open.old open.new
+        grants.old.items grants.new.items (spec.without_ask result) }
+    ensures ask { IfOk result (λ it. it ≡ ask) }
     ensures tree { A.levels asker.new ≡ A.levels asker.old }
 {
+    open.room_to_touch(server)?;
+    grants.reserve(1)?;
     let locked = match lock_at(asker, alloc, open.txn(), lock, server, ask) {
         Ok(locked) => locked,
         Err(fault) => return Err(fault),
     };
     let (grant, ask) = locked;
-    granting.push(server, grant);
+    open.touch(alloc, server)?;
+    grants.push_reserved(grant);
     Ok(ask)
 }
 
@@ -184,24 +179,24 @@ fn lock_next<A: Asker>(
 fn lock_each<A: Asker>(
     asker: &mut A,
     alloc: Global,
-    open: &Open,
+    open: &mut Open,
     lock: &WantedLock,
     servers: &[ServerId],
     ask: NodeAsk,
-    granting: &mut Granting,
+    grants: &mut Vec<Grant>,
 ) -> Result<(), LineFault>
-    requires same { open.now.levels ≡ A.levels asker.old }
+    requires same { open.old.levels ≡ A.levels asker.old }
     requires of_tree { list_all (λ id. id.levels == A.levels asker.old) servers.now ≡ true }
-    requires ask { ask ≡ spec.lock_ask open.now.txn lock.now.file lock.now.mode }
-    requires room { handed.CanGrant open.now.levels granting.old (numbers_of servers.now) }
-    ensures locks { IsLocking open.now lock.now
+    requires ask { ask ≡ spec.lock_ask open.old.txn lock.now.file lock.now.mode }
+    ensures locks { IsLocking lock.now
         (spec.locks_line lock.now.file lock.now.mode (numbers_of servers.now))
-        (numbers_of servers.now) (A.told asker.old) (A.told asker.new) granting.old granting.new result }
+        (numbers_of servers.now) (A.told asker.old) (A.told asker.new) open.old open.new
+        grants.old.items grants.new.items result }
     ensures tree { A.levels asker.new ≡ A.levels asker.old }
 {
     let mut ask = ask;
     for server in servers {
-        ask = match lock_next(asker, alloc, open, lock, *server, ask, granting) {
+        ask = match lock_next(asker, alloc, open, lock, *server, ask, grants) {
             Ok(ask) => ask,
             Err(fault) => return Err(fault),
         };
@@ -221,28 +216,23 @@ fn lock_ask(alloc: Global, open: &Open, file: &FileName, mode: Mode) -> Result<N
     Ok(NodeAsk::Work(Shared::new(alloc, lock)?))
 }
 
-/// A quorum from the view for what the mode is for, and a lock at each of its servers: their grants, for which the
-/// transaction hands out what it keeps. A fault gives that back.
+/// A quorum from the view for what the mode is for, and a lock at each of its servers: their grants.
 fn lock_quorum<A: Asker>(
     asker: &mut A,
     alloc: Global,
     open: &mut Open,
     file: &FileName,
     mode: Mode,
-) -> Result<Granting, LineFault>
+) -> Result<Vec<Grant>, LineFault>
     requires { open.old.levels ≡ A.levels asker.old }
-    ensures asked { line.IsTried (spec.quorum_line file.now mode open.old)
+    ensures asks { line.Follows (spec.quorum_line file.now mode open.old)
         (A.told asker.old) (A.told asker.new)
-        (spec.granting_answer open.old.txn file.now result) (spec.txn_after_locks open.new result) }
-    ensures levels { open.new.levels ≡ open.old.levels }
-    ensures kept { open_spec.IsTouched open.old (spec.txn_after_locks open.new result) }
-    ensures heard { IfOk result (λ granting.
-        AreHeard open.old.txn file.now (A.told asker.new) granting.grants) }
-    ensures member { IfOk result (λ it. open_spec.is_member open.old.levels it.grants ≡ true) }
-    ensures modes { IfOk result (λ granting. spec.AreOf mode granting.grants) }
-    ensures take { IfOk result (λ granting. handed.CanTake granting (granters granting.grants)) }
-    ensures of_tree { IfOk result (λ granting. handed.IsOfTree open.new.levels granting) }
-    ensures good { OnOk result (open_spec.IsOpen (spec.txn_after_locks open.new result)) }
+        (line.ended_by (spec.grants_answer open.old.txn file.now result) open.new) }
+    ensures kept { open_spec.IsTouched open.old open.new }
+    ensures heard { IfOk result (λ grants.
+        AreHeard open.old.txn file.now (A.told asker.new) grants.items) }
+    ensures member { IfOk result (λ it. open_spec.is_member open.old.levels it.items ≡ true) }
+    ensures modes { IfOk result (λ grants. spec.AreOf mode grants.items) }
     ensures tree { A.levels asker.new ≡ A.levels asker.old }
 {
     let ask = lock_ask(alloc, open, file, mode)?;
@@ -252,16 +242,10 @@ fn lock_quorum<A: Asker>(
     };
     let lock = WantedLock { file: *file, mode };
     let servers = quorum.servers();
-    let mut granting = match open.room_for(servers) {
-        Ok(granting) => granting,
-        Err(_) => return Err(LineFault::Memory),
-    };
-    match lock_each(asker, alloc, open, &lock, servers, ask, &mut granting) {
-        Ok(()) => Ok(granting),
-        Err(fault) => {
-            open.take_back(granting);
-            Err(fault)
-        }
+    let mut grants = Vec::with_capacity(alloc, servers.len())?;
+    match lock_each(asker, alloc, open, &lock, servers, ask, &mut grants) {
+        Ok(()) => Ok(grants),
+        Err(fault) => Err(fault),
     }
 }
 
@@ -276,8 +260,6 @@ pub fn read_file<A: Asker>(
     requires { open.old.levels ≡ A.levels asker.old }
     ensures asks { line.Follows (spec.read_line open.old file.now)
         (A.told asker.old) (A.told asker.new) (line.ended_by result open.new) }
-    ensures memory { spec.IsNoted result open.new (spec.quorum_line file.now Mode.Shared open.old)
-        (A.told asker.old) (A.told asker.new) }
     ensures levels { open.new.levels ≡ open.old.levels }
     ensures err { OnErr result (open_spec.IsTouched open.old open.new) }
     ensures knows { IsKnown Txn.Open (A.told asker.old) (A.told asker.new) open.old open.new }
@@ -310,18 +292,16 @@ fn read_at_quorum<A: Asker>(
     requires few { open_spec.has_all_ops open.old ≡ false }
     ensures asks { line.Follows (spec.quorum_read open.old file.now)
         (A.told asker.old) (A.told asker.new) (line.ended_by result open.new) }
-    ensures memory { spec.IsNoted result open.new (spec.quorum_line file.now Mode.Shared open.old)
-        (A.told asker.old) (A.told asker.new) }
     ensures levels { open.new.levels ≡ open.old.levels }
     ensures err { OnErr result (open_spec.IsTouched open.old open.new) }
     ensures knows { IsKnown Txn.Open (A.told asker.old) (A.told asker.new) open.old open.new }
     ensures tree { A.levels asker.new ≡ A.levels asker.old }
 {
-    let granting = match lock_quorum(asker, alloc, open, file, Mode::Shared) {
-        Ok(granting) => granting,
+    let grants = match lock_quorum(asker, alloc, open, file, Mode::Shared) {
+        Ok(grants) => grants,
         Err(fault) => return Err(fault),
     };
-    match open.read_locked(file, granting) {
+    match open.read_granted(file, grants) {
         Ok(copy) => Ok(ReadAnswer::Copy(copy)),
         Err(_) => Err(LineFault::Memory),
     }
@@ -339,8 +319,6 @@ pub fn write_file<A: Asker>(
     requires { open.old.levels ≡ A.levels asker.old }
     ensures asks { line.Follows (spec.write_line open.old file.now content)
         (A.told asker.old) (A.told asker.new) (line.ended_by result open.new) }
-    ensures memory { line.IsUnfailed result open.new
-        (spec.write_line open.old file.now content) (A.told asker.old) (A.told asker.new) }
     ensures levels { open.new.levels ≡ open.old.levels }
     ensures err { OnErr result (open_spec.IsTouched open.old open.new) }
     ensures knows { IsKnown Txn.Open (A.told asker.old) (A.told asker.new) open.old open.new }
@@ -370,19 +348,17 @@ fn write_at_quorum<A: Asker>(
     requires few { open_spec.has_all_ops open.old ≡ false }
     ensures asks { line.Follows (spec.quorum_write open.old file.now content)
         (A.told asker.old) (A.told asker.new) (line.ended_by result open.new) }
-    ensures memory { line.IsUnfailed result open.new
-        (spec.quorum_write open.old file.now content) (A.told asker.old) (A.told asker.new) }
     ensures levels { open.new.levels ≡ open.old.levels }
     ensures err { OnErr result (open_spec.IsTouched open.old open.new) }
     ensures knows { IsKnown Txn.Open (A.told asker.old) (A.told asker.new) open.old open.new }
     ensures tree { A.levels asker.new ≡ A.levels asker.old }
 {
-    let granting = match lock_quorum(asker, alloc, open, file, Mode::Exclusive) {
-        Ok(granting) => granting,
+    let grants = match lock_quorum(asker, alloc, open, file, Mode::Exclusive) {
+        Ok(grants) => grants,
         Err(fault) => return Err(fault),
     };
-    match open.write_locked(file, content, granting) {
-        Some(version) => Ok(version),
-        None => Err(LineFault::Txn(TxnFault::VersionFull)),
+    match open.write_granted(file, content, grants) {
+        Ok(version) => Ok(version),
+        Err(fault) => Err(LineFault::from(fault)),
     }
 }

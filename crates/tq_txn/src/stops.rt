@@ -12,8 +12,8 @@ use tq_shape::{ServerId, Shared};
 
 /// Marks a server down.
 fn mark_down<A: Asker>(asker: &mut A, alloc: Global, server: u64) -> Result<(), LineFault>
-    ensures asked { line.IsTried (spec.down_line server)
-        (A.told asker.old) (A.told asker.new) result tt }
+    ensures asks { line.Follows (spec.down_line server)
+        (A.told asker.old) (A.told asker.new) (line.ended_by result tt) }
     ensures tree { A.levels asker.new ≡ A.levels asker.old }
 {
     match asker.view(alloc, ViewAsk::Mark { server, up: false }) {
@@ -34,8 +34,6 @@ pub fn stop_at<A: Asker>(
     requires { server.levels ≡ A.levels asker.old }
     ensures asks { line.Follows (spec.stop_line server.number ask after)
         (A.told asker.old) (A.told asker.new) (line.ended_by result tt) }
-    ensures memory { line.IsUnfailed result tt
-        (spec.stop_line server.number ask after) (A.told asker.old) (A.told asker.new) }
     ensures tree { A.levels asker.new ≡ A.levels asker.old }
 {
     let ask = Shared::new(alloc, ask)?;
@@ -57,8 +55,6 @@ pub fn prepare_stopping<A: Asker>(
     requires { server.levels ≡ A.levels asker.old }
     ensures asks { line.Follows (spec.prepare_stop_line voting.now server.number after)
         (A.told asker.old) (A.told asker.new) (line.ended_by result voting.now) }
-    ensures memory { line.IsUnfailed result voting.now
-        (spec.prepare_stop_line voting.now server.number after) (A.told asker.old) (A.told asker.new) }
     ensures knows { IsKnown Txn.Voting (A.told asker.old) (A.told asker.new) voting.now voting.now }
     ensures tree { A.levels asker.new ≡ A.levels asker.old }
 {

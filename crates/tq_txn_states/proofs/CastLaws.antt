@@ -12,8 +12,7 @@ use Rattle.tq_asks.specs.declared.ask.WorkAsk.TheVariants.{Prepare}
 use Rattle.tq_txn_states.specs.declared.fault.TxnFault.{TxnFault}
 use Rattle.tq_txn_states.specs.declared.fault.TxnFault.TheVariants.{Memory}
 use Rattle.tq_txn_states.specs.Open.{ComesOf}
-use Rattle.tq_txn_states.specs.Ballots.{is_prepare_of}
-use Rattle.tq_txn_states.specs.Voting.{voted_by}
+use Rattle.tq_txn_states.specs.Voting.{is_prepare_of, voted_by}
 
 pub cast_none : (txn server number : ℕ) (ask : NodeAsk) (reply : NodeReply) → is_prepare_of txn ask ≡ false → voted_by txn server number ask reply ≡ None
 cast_none txn server number (Work (Prepare voter asked)) (Yes held writes) none = rw none refl

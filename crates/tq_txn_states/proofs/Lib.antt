@@ -2,7 +2,6 @@ pub mod Puts
 pub mod NumberSets
 pub mod Searched
 pub mod Tested
-pub mod GrantingLaws
 pub mod GoodGrants
 pub mod Granted
 pub mod GoodOps

@@ -1,8 +1,10 @@
 -- Of the grants of an operation, whose servers ascend, one at most is of a server.
-use Rattle.std.proofs.Common.{◌≡◌, ◌==◌, ◌∙◌, ℕ, zero, suc, Bool, true, false, not, ◌||◌, ◌&&◌, List, [], ◌∷◌, Some, None, slice_get, is_some, nat_lt, refl, sym, ap, subst, arith}
-use Rattle.std.specs.List.{list_all, list_any, position}
+use Rattle.std.proofs.Common.{◌≡◌, ◌==◌, ◌∙◌, ℕ, zero, suc, Bool, true, false, not, ◌||◌, ◌&&◌, List, [], ◌∷◌, Option, Some, None, slice_get, nat_lt, refl, sym, ap, subst, arith}
+use Rattle.std.specs.List.{list_all, list_any}
+use Rattle.std.specs.List.Sorted.{IsPartitionPoint}
+use Rattle.std.specs.Option.{option_map_or}
 use Rattle.std.proofs.Math.Bool.{and-true}
-use Rattle.std.proofs.lemmas.Bool.{and_parts, and_from, eq-eqb, le-ltb}
+use Rattle.std.proofs.lemmas.Bool.{and_parts, and_from, eq-eqb, eqb-true, false≢true, le-ltb, or_left, or_parts, or_right}
 use Rattle.std.proofs.lemmas.Option.{none-some}
 use Rattle.std.proofs.lemmas.Bool.Decides.{nat_tests}
 use Rattle.tq_evidence.specs.declared.grant.Grant.{Grant}
@@ -10,10 +12,10 @@ use Rattle.tq_evidence.specs.declared.op.Op.{Op}
 use Rattle.tq_evidence.specs.declared.vote.Vote.{Vote}
 use Rattle.tq_evidence.specs.Evidence.{covers, granters, rises, servers_of, has_quorum, are_quorums}
 use Rattle.tq_coterie.specs.Coterie.{is_quorum}
-use Rattle.tq_txn_states.specs.Voting.{covers_grant, have_order}
+use Rattle.tq_txn_states.specs.Open.{have_order}
+use Rattle.tq_txn_states.specs.Voting.{covers_grant, is_granter_at}
 use Rattle.tq_txn_states.proofs.NumberSets.{lower, rises_from, rises-from, rises_rest}
-use Rattle.tq_txn_states.proofs.Puts.{any-placed, none-placed}
-use Rattle.tq_txn_states.proofs.Searched.{still_beyond}
+use Rattle.tq_txn_states.proofs.Searched.{found_at, still_beyond}
 
 apart : (low next n : ℕ) → nat_lt low n ≡ false → nat_lt low next ≡ true → (n == next) ≡ false
 apart low next n from less = grind (arith, nat_tests)
@@ -65,10 +67,30 @@ quorums-order levels (op ∷ ops) are =
     let first = and_parts (rises (servers_of op)) (is_quorum levels (servers_of op)) parts.0 in
     and_from (rises (servers_of op)) (have_order ops) first.0 (quorums-order levels ops parts.1)
 
--- a value is found at a place where there is one
-pub found_one : {X : Type 0} (p : X → Bool) (xs : List X) → is_some (position p xs) ≡ list_any p xs
-found_one p xs =
-    elim (position p xs) as (λ o. position p xs ≡ o → is_some o ≡ list_any p xs) [
-      | Some place ↦ λ is. sym (any-placed p (λ x. x) xs place is)
-      | None ↦ λ is. sym (none-placed p (λ x. x) xs is)
-    ] refl
+-- ---- the place of a server's grant
+
+-- a search by halves leads to it, if it is there
+pub granter_at : (server : ℕ) (grants : List Grant) (place : ℕ) → rises (granters grants) ≡ true → IsPartitionPoint (λ grant. nat_lt grant.server server ≡ true) (λ grant. nat_lt grant.server server ≡ false) grants place → is_granter_at grants server place ≡ list_any (λ grant. grant.server == server) grants
+granter_at server grants place up point = sym (found_at (λ (grant : Grant). grant.server) server grants place up point)
+
+-- where it stands it is there
+pub granter_there : (server : ℕ) (grants : List Grant) (place : ℕ) → is_granter_at grants server place ≡ true → list_any (λ grant. grant.server == server) grants ≡ true
+granter_there server [] place is = absurd (false≢true is)
+granter_there server (first ∷ rest) zero is = or_left (first.server == server) (list_any (λ (grant : Grant). grant.server == server) rest) is
+granter_there server (first ∷ rest) (suc place) is = or_right (first.server == server) (list_any (λ (grant : Grant). grant.server == server) rest) (granter_there server rest place is)
+
+turned : (a b : ℕ) → (a == b) ≡ false → (b == a) ≡ false
+turned a b other = grind (arith, nat_tests)
+
+-- with no grant of the vote's server there is none that it has to cover
+pub none_to_cover : (vote : Vote) (file : List ℕ) (grants : List Grant) → list_any (λ grant. grant.server == vote.server) grants ≡ false → list_all (covers_grant vote file) grants ≡ true
+none_to_cover vote file [] none = refl
+none_to_cover vote file (first ∷ rest) none =
+    let others = or_parts (first.server == vote.server) (list_any (λ (grant : Grant). grant.server == vote.server) rest) none in
+    and_from (covers_grant vote file first) (list_all (covers_grant vote file) rest) (passes vote file first (turned first.server vote.server others.0)) (none_to_cover vote file rest others.1)
+
+-- the grant at the place is of the server
+pub granter_is : (server : ℕ) (grants : List Grant) (place : ℕ) (grant : Grant) → slice_get grants place ≡ Some grant → is_granter_at grants server place ≡ true → grant.server ≡ server
+granter_is server grants place grant at is =
+    let here : (grant.server == server) ≡ true = sym (ap (λ (o : Option Grant). option_map_or (λ (g : Grant). g.server == server) o false) at) ∙ is in
+    eqb-true grant.server server here

@@ -129,36 +129,6 @@ module _ {X : Type 0} (test : X → Bool) (change : X → X) where
       let at : Some (prefix_len (λ y. not (test y)) xs) ≡ no_place = sym (rw (lt-ltb (prefix_len (λ y. not (test y)) xs) (length xs) (passed xs some)) refl) ∙ none in
       cc
 
-  any_len : (xs : List X) → prefix_len (λ y. not (test y)) xs < length xs → list_any test xs ≡ true
-  any_len [] less = absurd (omega arith)
-  any_len (first ∷ rest) less =
-      elim (test first) as (λ b. cond (not b) (1 + prefix_len (λ y. not (test y)) rest) 0 < suc (length rest) → (b || list_any test rest) ≡ true) [
-        | true ↦ λ _. refl
-        | false ↦ λ more. any_len rest (omega arith)
-      ] less
-
-  pub any-placed : (xs : List X) (place : ℕ) → position test xs ≡ Some place → list_any test xs ≡ true
-  any-placed xs place is =
-      let at = found_place xs place is in
-      any_len xs (rw (← at.0) at.1)
-
-  none_len : (xs : List X) → length xs ≤ prefix_len (λ y. not (test y)) xs → list_any test xs ≡ false
-  none_len [] more = refl
-  none_len (first ∷ rest) more =
-      elim (test first) as (λ b. suc (length rest) ≤ cond (not b) (1 + prefix_len (λ y. not (test y)) rest) 0 → (b || list_any test rest) ≡ false) [
-        | true ↦ λ m. absurd (omega arith)
-        | false ↦ λ m. none_len rest (omega arith)
-      ] more
-
-  pub none-placed : (xs : List X) → position test xs ≡ None → list_any test xs ≡ false
-  none-placed xs none =
-      elim (cases_lt (prefix_len (λ y. not (test y)) xs) (length xs)) [
-        | inl less ↦
-            let at : Some (prefix_len (λ y. not (test y)) xs) ≡ no_place = sym (rw (lt-ltb (prefix_len (λ y. not (test y)) xs) (length xs) less) refl) ∙ none in
-            cc
-        | inr more ↦ none_len xs more
-      ]
-
 -- a call that cannot fail did what it does where it succeeds
 pub on_success : {T E P : Type 0} (result : Result T E) → IsOk result → OnOk result P → P
 on_success (Ok value) is after = after

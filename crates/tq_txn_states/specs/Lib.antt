@@ -1,8 +1,6 @@
 pub mod Sets
 pub mod Places
 pub mod Open
-pub mod Granting
 pub mod Voting
 pub mod Cited
 pub mod Ended
-pub mod Ballots

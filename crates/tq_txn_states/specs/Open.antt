@@ -1,6 +1,6 @@
 -- An open transaction: what it has read and written, and what an answer that it is told makes of it.
 use Rattle.std.specs.Prelude.{◌≡◌, ◌==◌, ◌+◌, ◌^◌, ℕ, Bool, true, false, not, ◌&&◌, nat_lt, nat_le, List, [], length, Option, Some, None, is_none, if◌then◌else◌}
-use Rattle.std.specs.List.{list_any, find, filter_map}
+use Rattle.std.specs.List.{list_all, list_any, find, filter_map}
 use Rattle.std.specs.Option.{option_map}
 use Rattle.std.specs.Ordering.{is_lt}
 use Rattle.tq_shape.specs.Limits.{LimitsView}
@@ -52,6 +52,10 @@ pub record IsOpen (open_txn : OpenView) : Type 0 where
   pub exclusive : are_exclusive open_txn.ops ≡ true
   pub versions : are_versions open_txn.ops ≡ true
   pub voters : HasVoters open_txn
+
+-- the servers of each operation ascend
+abbrev pub have_order : List Op → Bool
+have_order ops = list_all (λ op. rises (servers_of op)) ops
 
 abbrev pub has_all_ops : OpenView → Bool
 has_all_ops old = nat_le old.limits.ops (length old.ops)

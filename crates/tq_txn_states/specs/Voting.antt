@@ -1,7 +1,7 @@
 -- A transaction that gathers votes: each as a voter gave it, once for each voter in the end.
-use Rattle.std.specs.Prelude.{◌≡◌, ◌==◌, ℕ, Bool, true, not, ◌||◌, nat_lt, List, [], map, filter, Option, Some, None, if◌then◌else◌}
+use Rattle.std.specs.Prelude.{◌≡◌, ◌==◌, ℕ, Bool, true, false, not, ◌||◌, nat_lt, List, [], map, filter, slice_get, Option, Some, None, if◌then◌else◌}
 use Rattle.std.specs.List.{All, Contains, list_any, list_all, find}
-use Rattle.std.specs.Option.{option_map}
+use Rattle.std.specs.Option.{option_map, option_map_or}
 use Rattle.tq_store.specs.declared.write.Write.{Write}
 use Rattle.tq_asks.specs.declared.ask.NodeAsk.{NodeAsk}
 use Rattle.tq_asks.specs.declared.ask.NodeAsk.TheVariants.{Work}
@@ -14,7 +14,7 @@ use Rattle.tq_desk.specs.declared.ask.DeskAsk.TheVariants.{Commit}
 use Rattle.tq_evidence.specs.declared.grant.Grant.{Grant}
 use Rattle.tq_evidence.specs.declared.op.Op.{Op}
 use Rattle.tq_evidence.specs.declared.vote.Vote.{Vote}
-use Rattle.tq_evidence.specs.Evidence.{is_write, has_server, is_server_of, covers, rises, servers_of, votes_rise, are_of_servers, has_writes, is_some_op}
+use Rattle.tq_evidence.specs.Evidence.{is_write, has_server, is_server_of, covers, votes_rise, are_of_servers, has_writes, is_some_op}
 use Rattle.tq_txn_states.specs.declared.told.NodeTold.{NodeTold}
 use Rattle.tq_txn_states.specs.declared.fault.TxnFault.{TxnFault}
 use Rattle.tq_txn_states.specs.declared.fault.TxnFault.TheVariants.{Memory, NotAVoter, NotMyVote, LostLock, VotesMissing}
@@ -37,6 +37,10 @@ writes_in ops = filter is_write ops
 
 abbrev pub write_in : Op → Write
 write_in op = record { file = op.file; version = op.version; content = op.content }
+
+-- the grant at the place is the server's
+abbrev pub is_granter_at : List Grant → ℕ → ℕ → Bool
+is_granter_at grants server place = option_map_or (λ grant. grant.server == server) (slice_get grants place) false
 
 -- what the transaction writes at a server
 abbrev pub writes_at : List Op → ℕ → List Write
@@ -65,6 +69,11 @@ ask_fault old server = refuse (not (is_server_of old.ops server)) NotAVoter None
 -- where the fault is memory refused, the server is a voter
 abbrev pub IsOfVoter : OpenView → ℕ → TxnFault → Type 0
 IsOfVoter old server fault = fault ≡ Memory → ask_fault old server ≡ None
+
+-- the ask is for a vote for this transaction
+abbrev pub is_prepare_of : ℕ → NodeAsk → Bool
+is_prepare_of txn (Work (Prepare voter asked)) = voter == txn
+is_prepare_of txn ask = false
 
 -- the vote that an answer tells of: a vote for this transaction
 abbrev pub voted_by : ℕ → ℕ → ℕ → NodeAsk → NodeReply → Option Vote
@@ -134,10 +143,6 @@ pub record IsGoodVote (ops : List Op) (vote : Vote) : Type 0 where
   pub voter : is_server_of ops vote.server ≡ true
   pub covered : list_all (covers_op vote) ops ≡ true
   pub writes : has_writes (writes_in ops) vote ≡ true
-
--- the servers of each operation ascend
-abbrev pub have_order : List Op → Bool
-have_order ops = list_all (λ op. rises (servers_of op)) ops
 
 -- what a transaction that gathers votes keeps beside: votes that are good evidence as far as they go
 pub record IsVoting (old : VotingView) : Type 0 where

@@ -5,25 +5,20 @@ ghost use Rattle.std.specs.Ordering.{is_lt};
 ghost use Rattle.tq_store.specs.Copies.{name_cmp};
 ghost use Rattle.tq_coterie.specs.Coterie.{numbers_of};
 ghost use Rattle.tq_evidence.specs.Evidence as evidence;
-ghost use Rattle.tq_evidence.specs.Evidence.{granters as granters_of};
 ghost use Rattle.tq_txn_states.specs.Places.{place_before};
 ghost use Rattle.tq_txn_states.specs.Sets as sets;
 ghost use Rattle.tq_txn_states.specs.Cited.{AddsOnly, KeepsOnly, VotesOnly, answers_of};
 ghost use Rattle.tq_txn_states.specs.Ended as ending;
-ghost use Rattle.tq_txn_states.specs.Granting as handed;
-ghost use Rattle.tq_txn_states.specs.Granting.{CanGrant};
 ghost use Rattle.tq_txn_states.specs.Open as spec;
-ghost use Rattle.tq_txn_states.specs.Open.{ComesOf, IsBack, close_fault, grants_fault, txn_after_op, write_after, write_op};
+ghost use Rattle.tq_txn_states.specs.Open.{ComesOf, IsBack, close_fault, grants_fault, read_op, txn_after_op, write_after, write_op};
 ghost use Rattle.tq_txn_states.specs.Voting.{voting_of};
 
 use crate::ended::verdict_of;
-use crate::granting::{Granting, Kept};
-use crate::grants::{ReadTwice, grants_of, read_copy, read_twice};
+use crate::grants::{ReadTwice, grants_of, read_twice};
 use crate::servers::Servers;
 use crate::{DeskTold, Ended, NodeTold, TxnFault, Voting};
 use std::alloc::Global;
 use std::marker::Model;
-use std::mem;
 use tq_asks::Verdict;
 use tq_coterie::is_quorum;
 use tq_desk::{Grant, Op, OpKind};
@@ -114,6 +109,7 @@ impl Open {
     pub fn ops(&self) -> &[Op]
         ensures value { result.now ≡ self.now.ops }
         ensures good { spec.IsOpen self.now }
+        ensures order { spec.have_order result.now ≡ true }
     {
         self.ops.as_slice()
     }
@@ -158,12 +154,30 @@ impl Open {
         self.voters.as_slice()
     }
 
+    /// Whether a server is of the quorum of one of its operations.
+    pub(crate) fn is_voter(&self, server: u64) -> bool
+        ensures { result ≡ evidence.is_server_of self.now.ops server }
+    {
+        self.voters.contains(server)
+    }
+
     /// The servers that granted it a lock, as far as it was handed them, ascending.
     pub fn servers(&self) -> &[ServerId]
         ensures numbers { numbers_of result.now ≡ self.now.touched }
         ensures set { sets.IsServerSet self.now.levels result.now }
     {
         self.touched.as_slice()
+    }
+
+    /// Makes room to note that a server granted it a lock. Nothing else changes.
+    pub fn room_to_touch(&mut self, server: ServerId) -> Result<(), Memory>
+        ensures { self.new ≡ self.old }
+    {
+        if self.touched.contains(server.number()) {
+            return Ok(());
+        }
+        self.touched.reserve(1)?;
+        Ok(())
     }
 
     /// Notes that a server granted it a lock. Out of memory leaves it as it was.
@@ -174,100 +188,32 @@ impl Open {
         ensures levels { self.new.levels ≡ self.old.levels }
         ensures err { OnErr result (self.new ≡ self.old) }
     {
+        if self.touched.contains(server.number()) {
+            return Ok(());
+        }
         self.touched.reserve(1)?;
         self.touched.put(server);
         Ok(())
     }
 
-    /// Hands out what it keeps of its operations, with room for locks of these servers and for the operation that is to
-    /// rest on them. Out of memory leaves the transaction as it was.
-    pub fn room_for(&mut self, servers: &[ServerId]) -> Result<Granting, Memory>
-        ensures value { IfOk result
-            (λ granting. handed.txn_with_grants self.new granting ≡ self.old) }
-        ensures grants { IfOk result (λ granting. granting.grants ≡ []) }
-        ensures room { IfOk result (λ it. CanGrant self.new.levels it (numbers_of servers.now)) }
-        ensures take { IfOk result (λ granting. handed.CanTake granting (numbers_of servers.now)) }
-        ensures tree { IfOk result (λ granting. handed.IsOfTree self.new.levels granting) }
-        ensures good { IfOk result (λ granting. spec.IsOpen self.old) }
+    /// Reads a file by the grants of a quorum: the first copy of the greatest version granted. Out of memory leaves the
+    /// transaction as it was.
+    pub fn read_granted(
+        &mut self,
+        file: &FileName,
+        grants: Vec<Grant>,
+    ) -> Result<FileCopy, Memory>
+        requires fresh { spec.is_used self.old.ops file.now ≡ false }
+        requires member { spec.is_member self.old.levels grants.items ≡ true }
+        ensures value { IfOk result (λ copy. copy ≡ spec.read_copy grants.items) }
+        ensures after { OnOk result (self.new ≡ txn_after_op self.old (read_op file.now grants.items)) }
         ensures err { OnErr result (self.new ≡ self.old) }
     {
-        self.ops.reserve(1)?;
-        let grows = self.voters.make_room(servers)?;
-        let notes = self.touched.make_room(servers)?;
-        let alloc = self.allocator();
-        let grants = Vec::with_capacity(alloc, servers.len())?;
-        let kept = Kept {
-            ops: mem::replace(&mut self.ops, Vec::new(alloc)),
-            voters: self.voters.take(),
-            grows,
-            touched: self.touched.take(),
-        };
-        Ok(Granting::new(kept, notes, grants))
-    }
-
-    /// Takes back what was handed out: the servers that granted a lock are now noted. It takes no memory.
-    pub fn take_back(&mut self, granting: Granting)
-        requires tree { handed.IsOfTree self.old.levels granting }
-        requires good { spec.IsOpen (handed.txn_with_grants self.old granting) }
-        ensures { self.new ≡ handed.txn_with_grants self.old granting }
-    {
-        let (kept, _grants) = granting.into_parts();
-        self.keep(kept);
-    }
-
-    /// Keeps these operations and servers.
-    fn keep(&mut self, kept: Kept)
-        requires { handed.Fits self.old kept }
-        ensures { self.new ≡ handed.txn_with_kept self.old kept }
-    {
-        let Kept {
-            ops,
-            voters,
-            grows: _,
-            touched,
-        } = kept;
-        self.ops = ops;
-        self.voters = voters;
-        self.touched = touched;
-    }
-
-    /// Takes an operation for which there is room, and each of whose servers is noted. It takes no memory.
-    fn put(&mut self, kept: Kept, op: Op)
-        requires { handed.CanPut self.old kept op }
-        ensures { self.new ≡ txn_after_op (handed.txn_with_kept self.old kept) op }
-    {
-        let mut kept = kept;
-        kept.voters.grow(kept.grows, op.grants.as_slice());
-        put_in_order(&mut kept.ops, op);
-        self.keep(kept);
-    }
-
-    /// Reads a file by the grants that came in for what was handed out. Out of memory takes that back: the servers that
-    /// granted a lock are noted. It takes no memory but what a clone of a content may want.
-    pub fn read_locked(&mut self, file: &FileName, granting: Granting) -> Result<FileCopy, Memory>
-        requires tree { handed.IsOfTree self.old.levels granting }
-        requires open { spec.IsOpen (handed.txn_with_grants self.old granting) }
-        requires take { handed.CanTake granting (granters_of granting.grants) }
-        requires fresh { spec.is_used granting.ops file.now ≡ false }
-        requires member { spec.is_member self.old.levels granting.grants ≡ true }
-        ensures value { IfOk result (λ copy. copy ≡ spec.read_copy granting.grants) }
-        ensures after { OnOk result (self.new
-            ≡ txn_after_op (handed.txn_with_grants self.old granting)
-            (spec.read_op file.now granting.grants)) }
-        ensures err { OnErr result (self.new ≡ handed.txn_with_grants self.old granting) }
-    {
-        let given = match read_twice(granting.grants()) {
-            Ok(given) => given,
-            Err(refused) => {
-                self.take_back(granting);
-                return Err(refused);
-            }
-        };
+        let given = read_twice(grants.as_slice())?;
         let ReadTwice {
             copy,
             kept: content,
         } = given;
-        let (kept, grants) = granting.into_parts();
         let op = Op {
             file: *file,
             kind: OpKind::Read,
@@ -275,35 +221,31 @@ impl Open {
             content,
             grants: share_grants(grants),
         };
-        self.put(kept, op);
+        self.take(op)?;
         Ok(copy)
     }
 
-    /// Writes a file by the exclusive grants that came in for what was handed out, and answers the version; none where the
-    /// greatest granted is the last, and then takes that back. It takes no memory.
-    pub fn write_locked(
+    /// Writes a file by the exclusive grants of a quorum: the version is one above the greatest granted. A fault leaves
+    /// the transaction as it was.
+    pub fn write_granted(
         &mut self,
         file: &FileName,
         content: Content,
-        granting: Granting,
-    ) -> Option<u64>
-        requires tree { handed.IsOfTree self.old.levels granting }
-        requires open { spec.IsOpen (handed.txn_with_grants self.old granting) }
-        requires take { handed.CanTake granting (granters_of granting.grants) }
-        requires fresh { spec.is_written granting.ops file.now ≡ false }
-        requires member { spec.is_member self.old.levels granting.grants ≡ true }
-        requires exclusive { evidence.is_exclusively_granted granting.grants ≡ true }
-        ensures value { spec.version_after granting.grants ≡ result }
-        ensures after { OnSome result (self.new
-            ≡ txn_after_op (handed.txn_with_grants self.old granting)
-            (write_op file.now content granting.grants)) }
-        ensures full { result ≡ None → self.new ≡ handed.txn_with_grants self.old granting }
+        grants: Vec<Grant>,
+    ) -> Result<u64, TxnFault>
+        requires fresh { spec.is_written self.old.ops file.now ≡ false }
+        requires member { spec.is_member self.old.levels grants.items ≡ true }
+        requires exclusive { evidence.is_exclusively_granted grants.items ≡ true }
+        ensures succeeds { OnOk result (spec.version_fault grants.items ≡ None) }
+        ensures value { IfOk result (λ made. made ≡ evidence.greatest grants.items + 1) }
+        ensures after { OnOk result
+            (self.new ≡ txn_after_op self.old (write_op file.now content grants.items)) }
+        ensures fault { IfErr result (ComesOf (spec.version_fault grants.items)) }
+        ensures err { OnErr result (self.new ≡ self.old) }
     {
-        let Some(version) = greatest_version(granting.grants()).checked_add(1) else {
-            self.take_back(granting);
-            return None;
+        let Some(version) = greatest_version(grants.as_slice()).checked_add(1) else {
+            return Err(TxnFault::VersionFull);
         };
-        let (kept, grants) = granting.into_parts();
         let op = Op {
             file: *file,
             kind: OpKind::Write,
@@ -311,8 +253,8 @@ impl Open {
             content,
             grants: share_grants(grants),
         };
-        self.put(kept, op);
-        Some(version)
+        self.take(op)?;
+        Ok(version)
     }
 
     /// Reads a file by the answers of a quorum: the first copy of the greatest version granted. A fault leaves the
@@ -335,17 +277,8 @@ impl Open {
             return Err(TxnFault::AlreadyThere);
         }
         let grants = self.admit(alloc, OpKind::Read, file, answers)?;
-        let given = read_copy(grants.as_slice())?;
-        let kept = given.content.clone()?;
-        let op = Op {
-            file: *file,
-            kind: OpKind::Read,
-            version: given.version,
-            content: kept,
-            grants: Shareable::from_vec(grants.into_vec()),
-        };
-        self.take(op)?;
-        Ok(given)
+        let found = self.read_granted(file, grants)?;
+        Ok(found)
     }
 
     /// Writes a file by the answers of a quorum: the version is one above the greatest granted. A fault leaves the
@@ -369,17 +302,7 @@ impl Open {
             return Err(TxnFault::AlreadyThere);
         }
         let grants = self.admit(alloc, OpKind::Write, file, answers)?;
-        let Some(version) = greatest_version(grants.as_slice()).checked_add(1) else {
-            return Err(TxnFault::VersionFull);
-        };
-        let op = Op {
-            file: *file,
-            kind: OpKind::Write,
-            version,
-            content,
-            grants: Shareable::from_vec(grants.into_vec()),
-        };
-        self.take(op)?;
+        let version = self.write_granted(file, content, grants)?;
         Ok(version)
     }
 
@@ -468,12 +391,11 @@ impl Open {
         kind: OpKind,
         file: &FileName,
         answers: &[NodeTold],
-    ) -> Result<Seq<Grant>, TxnFault>
+    ) -> Result<Vec<Grant>, TxnFault>
         ensures succeeds { OnOk result (grants_fault kind self.now file.now answers.now ≡ None) }
         ensures grants { IfOk result (λ grants.
-            grants ≡ spec.grants_of kind self.now.txn file.now answers.now) }
-        ensures member { IfOk result (λ grants. spec.is_member self.now.levels grants ≡ true) }
-        ensures few { IfOk result (λ grants. length self.now.ops < self.now.limits.ops) }
+            grants.items ≡ spec.grants_of kind self.now.txn file.now answers.now) }
+        ensures member { IfOk result (λ grants. spec.is_member self.now.levels grants.items ≡ true) }
         ensures fault { IfErr result (ComesOf (grants_fault kind self.now file.now answers.now)) }
     {
         if self.is_full() {
@@ -483,7 +405,7 @@ impl Open {
         if !is_member(alloc, self.levels, grants.as_slice())? {
             return Err(TxnFault::NotAMember);
         }
-        Ok(Seq::from_vec(grants))
+        Ok(grants)
     }
 
     /// Takes an operation. Out of memory leaves the transaction as it was.
@@ -492,12 +414,11 @@ impl Open {
         ensures after { OnOk result (self.new ≡ spec.txn_after_op self.old op) }
         ensures err { OnErr result (self.new ≡ self.old) }
     {
-        let more = op.grants.as_slice().len();
-        self.voters.reserve(more)?;
-        self.touched.reserve(more)?;
+        let grows = self.voters.make_room(op.grants.as_slice())?;
+        let notes = self.touched.make_room(op.grants.as_slice())?;
         self.ops.reserve(1)?;
-        self.voters.grow(true, op.grants.as_slice());
-        self.touched.grow(true, op.grants.as_slice());
+        self.voters.grow(grows, op.grants.as_slice());
+        self.touched.grow(notes, op.grants.as_slice());
         put_in_order(&mut self.ops, op);
         Ok(())
     }

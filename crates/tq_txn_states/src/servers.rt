@@ -1,4 +1,4 @@
-ghost use Rattle.std.specs.Prelude.{◌≡◌, ◌==◌, ◌+◌, ◌<◌, ◌≤◌, [], true, false, length, nat_lt, IfOk, IsTrue, OnOk};
+ghost use Rattle.std.specs.Prelude.{◌≡◌, ◌==◌, ◌+◌, ◌<◌, ◌≤◌, [], true, false, length, nat_lt, vec_capacity, vec_len, IfOk, IsTrue, OnOk};
 ghost use Rattle.std.specs.List.{insert, list_all, list_any};
 ghost use Rattle.tq_coterie.specs.Coterie.{has, is_quorum, numbers_of};
 ghost use Rattle.tq_evidence.specs.Evidence.{granters, rises};
@@ -6,8 +6,6 @@ ghost use Rattle.tq_txn_states.specs.Sets.{IsReady, IsServerSet, with_id, with_n
 
 use std::alloc::Global;
 use std::marker::Model;
-use std::mem;
-use tq_coterie::ServerIds;
 use tq_desk::Grant;
 use tq_shape::{Levels, Memory, ServerId};
 
@@ -15,11 +13,11 @@ use tq_shape::{Levels, Memory, ServerId};
 #[derive(Drop)]
 pub(crate) struct Servers {
     levels: Levels,
-    ids: ServerIds,
+    ids: Vec<ServerId>,
 }
 
 impl Model for Servers {
-    ghost use Rattle.std.specs.Prelude.{◌-◌, length};
+    ghost use Rattle.std.specs.Prelude.{◌-◌, vec_capacity, vec_len};
     ghost use Rattle.tq_coterie.specs.Coterie.{numbers_of};
     ghost use Rattle.tq_txn_states.specs.Sets.{IsServerSet, RoomySet};
 
@@ -28,7 +26,7 @@ impl Model for Servers {
     ghost view = { λ a. record {
       servers = numbers_of a.ids.items;
       levels = a.levels;
-      room = a.ids.capacity - length a.ids.items;
+      room = vec_capacity a.ids - vec_len a.ids;
     } };
 
     ghost invariant = { λ a. IsServerSet a.levels a.ids.items };
@@ -41,7 +39,7 @@ impl Servers {
     {
         Servers {
             levels,
-            ids: ServerIds::new(alloc),
+            ids: Vec::new(alloc),
         }
     }
 
@@ -50,6 +48,13 @@ impl Servers {
         ensures set { IsServerSet self.now.levels result.now }
     {
         self.ids.as_slice()
+    }
+
+    /// Whether a server of that number is there.
+    pub(crate) fn contains(&self, number: u64) -> bool
+        ensures { result ≡ has self.now.servers number }
+    {
+        has_number(self.ids.as_slice(), number)
     }
 
     /// Makes room for as many servers more.
@@ -62,16 +67,16 @@ impl Servers {
         Ok(())
     }
 
-    /// Makes room for the servers, and tells whether it is to grow by them: else it has them all.
-    pub(crate) fn make_room(&mut self, servers: &[ServerId]) -> Result<bool, Memory>
-        ensures ready { IfOk result (λ grows. IsReady self.new grows (numbers_of servers.now)) }
+    /// Makes room for the servers of the grants, and tells whether it is to grow by them: else it has them all.
+    pub(crate) fn make_room(&mut self, grants: &[Grant]) -> Result<bool, Memory>
+        ensures ready { IfOk result (λ grows. IsReady self.new grows (granters grants.now)) }
         ensures servers { self.new.servers ≡ self.old.servers }
         ensures levels { self.new.levels ≡ self.old.levels }
     {
-        if has_all(self.ids.as_slice(), servers) {
+        if has_all(self.ids.as_slice(), grants) {
             return Ok(false);
         }
-        self.reserve(servers.len())?;
+        self.reserve(grants.len())?;
         Ok(true)
     }
 
@@ -109,23 +114,6 @@ impl Servers {
             self.put(ServerId::new(self.levels, grant.server));
         }
     }
-
-    /// Hands the set out, and leaves none of its servers.
-    pub(crate) fn take(&mut self) -> Servers
-        ensures taken { result ≡ self.old }
-        ensures left { self.new.servers ≡ [] }
-        ensures levels { self.new.levels ≡ self.old.levels }
-    {
-        let none = Servers::new(*self.ids.allocator(), self.levels);
-        mem::replace(self, none)
-    }
-
-    /// Ends the set, and puts this one in its place.
-    pub(crate) fn replace(&mut self, servers: Servers)
-        ensures { self.new ≡ servers }
-    {
-        *self = servers;
-    }
 }
 
 /// Whether the number is above those of all the servers, which ascend.
@@ -151,32 +139,32 @@ fn has_number(ids: &[ServerId], number: u64) -> bool
     }
 }
 
-/// Whether all the others are among the servers, as one walk along both finds them where both ascend.
-fn has_all(ids: &[ServerId], others: &[ServerId]) -> bool
-    ensures { IsTrue result → list_all (has (numbers_of ids.now)) (numbers_of others.now) ≡ true }
+/// Whether the servers of all grants are there, as one walk along both finds them where both ascend.
+fn has_all(ids: &[ServerId], grants: &[Grant]) -> bool
+    ensures { IsTrue result → list_all (has (numbers_of ids.now)) (granters grants.now) ≡ true }
 {
-    match others {
+    match grants {
         [] => true,
-        [other, ..] => match ids {
+        [grant, ..] => match ids {
             [] => false,
             [id, ..] => {
-                if id.number() == other.number() {
-                    return has_all(ids, &others[1..]);
+                if id.number() == grant.server {
+                    return has_all(ids, &grants[1..]);
                 }
-                has_all(&ids[1..], others)
+                has_all(&ids[1..], grants)
             }
         },
     }
 }
 
 /// Puts a server that is not there before the first above it, in a list that has room.
-fn put_in_order(ids: &mut ServerIds, server: ServerId)
+fn put_in_order(ids: &mut Vec<ServerId>, server: ServerId)
     requires rise { rises (numbers_of ids.old.items) ≡ true }
     requires absent { list_any (λ id. id.number == server.number) ids.old.items ≡ false }
-    requires room { length ids.old.items + 1 ≤ ids.old.capacity }
+    requires room { vec_len ids.old < vec_capacity ids.old }
     ensures items { ids.new.items ≡ with_id server ids.old.items }
-    ensures len { length ids.new.items ≡ length ids.old.items + 1 }
-    ensures capacity { ids.new.capacity ≡ ids.old.capacity }
+    ensures len { vec_len ids.new ≡ vec_len ids.old + 1 }
+    ensures capacity { vec_capacity ids.new ≡ vec_capacity ids.old }
 {
     let place = place_of(ids.as_slice(), server);
     let _room_was_made = ids.insert(place, server);

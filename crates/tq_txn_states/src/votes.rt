@@ -3,7 +3,6 @@ ghost use Rattle.std.specs.List.{list_all, list_any};
 ghost use Rattle.std.specs.List.Sorted.{IsPartitionPoint};
 ghost use Rattle.std.specs.Option.{option_copied, option_map, option_map_or};
 ghost use Rattle.tq_evidence.specs.Evidence as evidence;
-ghost use Rattle.tq_txn_states.specs.Ballots as ballots_spec;
 ghost use Rattle.tq_txn_states.specs.Open as open_spec;
 ghost use Rattle.tq_txn_states.specs.Voting as spec;
 ghost use Rattle.tq_txn_states.specs.Voting.{is_of_server};
@@ -52,7 +51,7 @@ pub(crate) fn cast_in(txn: u64, told: NodeTold) -> Option<Cast>
 
 /// Whether the ask is for a vote for the transaction.
 fn is_prepare_of(txn: u64, ask: &NodeAsk) -> bool
-    ensures { result ≡ ballots_spec.is_prepare_of txn ask.now }
+    ensures { result ≡ spec.is_prepare_of txn ask.now }
 {
     let NodeAsk::Work(work) = ask else {
         return false;
@@ -63,78 +62,67 @@ fn is_prepare_of(txn: u64, ask: &NodeAsk) -> bool
     *voter == txn
 }
 
-pub(crate) fn is_server_of(ops: &[Op], server: u64) -> bool
-    ensures { result ≡ evidence.is_server_of ops.now server }
-{
-    ops.iter().any(|op| op.has_server(server))
-}
-
 /// Where the server's grant stands in the first operation that has one.
 pub(crate) fn place_of_server(ops: &[Op], server: u64) -> Option<usize>
+    requires { open_spec.have_order ops.now ≡ true }
     ensures { is_some result ≡ evidence.is_server_of ops.now server }
 {
     match ops {
         [] => None,
-        [op, ..] => match place_in(op, server) {
-            Some(place) => Some(place),
-            None => place_of_server(&ops[1..], server),
-        },
-    }
-}
-
-/// Where the server's grant stands in an operation.
-#[inline(always)]
-fn place_in(op: &Op, server: u64) -> Option<usize>
-    ensures { is_some result ≡ evidence.has_server op.now server }
-{
-    place_among(op.grants.as_slice(), server)
-}
-
-/// So many grants are looked at one by one.
-const FEW_GRANTS: usize = 16;
-
-/// Where the server's grant stands: of many a search finds it where they ascend by server, and else a look at each.
-fn place_among(grants: &[Grant], server: u64) -> Option<usize>
-    ensures { is_some result ≡ list_any (λ grant. grant.server == server) grants.now }
-{
-    if grants.len() > FEW_GRANTS {
-        let place = grants.partition_point(|grant| grant.server < server);
-        if let Some(grant) = grants.get(place) {
-            if grant.server == server {
+        [op, ..] => {
+            let place = place_of_grant(op.grants.as_slice(), server, 0);
+            if is_granter_at(op.grants.as_slice(), server, place) {
                 return Some(place);
             }
+            place_of_server(&ops[1..], server)
         }
     }
-    first_place_among(grants, server)
 }
 
-fn first_place_among(grants: &[Grant], server: u64) -> Option<usize>
-    ensures { result ≡ position (λ grant. grant.server == server) grants.now }
+/// Where the server's grant stands, if it is there: likely at the place, and else a search by halves finds it.
+#[inline(always)]
+fn place_of_grant(grants: &[Grant], server: u64, likely: usize) -> usize
+    requires { evidence.rises (evidence.granters grants.now) ≡ true }
+    ensures { spec.is_granter_at grants.now server result
+        ≡ list_any (λ grant. grant.server == server) grants.now }
 {
-    grants.iter().position(|grant| grant.server == server)
+    if is_granter_at(grants, server, likely) {
+        return likely;
+    }
+    grants.partition_point(|grant| grant.server < server)
+}
+
+/// Whether the grant at the place is the server's.
+#[inline(always)]
+fn is_granter_at(grants: &[Grant], server: u64, place: usize) -> bool
+    ensures value { result ≡ spec.is_granter_at grants.now server place }
+    ensures within { IsTrue result → place < length grants.now }
+{
+    match grants.get(place) {
+        Some(grant) => grant.server == server,
+        None => false,
+    }
 }
 
 /// Whether a server granted a lock to the operation: its grant likely stands at the place.
 #[inline(always)]
-fn has_server_at(op: &Op, server: u64, place: usize) -> bool
+fn has_server_at(op: &Op, server: u64, likely: usize) -> bool
+    requires { evidence.rises (evidence.servers_of op.now) ≡ true }
     ensures { result ≡ evidence.has_server op.now server }
 {
     let grants = op.grants.as_slice();
-    if let Some(grant) = grants.get(place) {
-        if grant.server == server {
-            return true;
-        }
-    }
-    op.has_server(server)
+    let place = place_of_grant(grants, server, likely);
+    is_granter_at(grants, server, place)
 }
 
 /// What the operations write at a server, by file.
 pub(crate) fn writes_at(alloc: Global, ops: &[Op], server: u64) -> Result<SharedSeq<Write>, Memory>
+    requires { open_spec.have_order ops.now ≡ true }
     ensures { IfOk result (λ writes. writes ≡ spec.writes_at ops.now server) }
 {
     let mut writes = Vec::with_capacity(alloc, ops.len())?;
     for op in ops {
-        if op.is_write() && op.has_server(server) {
+        if op.is_write() && has_server_at(op, server, 0) {
             writes.push(write_in(op)?)?;
         }
     }
@@ -153,6 +141,7 @@ fn write_in(op: &Op) -> Result<Write, Memory>
 
 /// Whether the ask is the one for the server's vote.
 pub(crate) fn is_ask_at(ask: &NodeAsk, txn: u64, ops: &[Op], server: u64) -> bool
+    requires { open_spec.have_order ops.now ≡ true }
     ensures { IsTrue result
         → ask.now ≡ NodeAsk.Work (WorkAsk.Prepare txn (spec.writes_at ops.now server)) }
 {
@@ -170,14 +159,23 @@ pub(crate) fn is_ask_at(ask: &NodeAsk, txn: u64, ops: &[Op], server: u64) -> boo
 
 /// Whether all that the operations write, they write at the server: its grants likely stand at the place.
 pub(crate) fn writes_all_at(ops: &[Op], server: u64, place: usize) -> bool
+    requires { open_spec.have_order ops.now ≡ true }
     ensures { result ≡ spec.writes_all_at ops.now server }
 {
-    ops.iter()
-        .all(|op| !op.is_write() || has_server_at(op, server, place))
+    match ops {
+        [] => true,
+        [op, ..] => {
+            if op.is_write() && !has_server_at(op, server, place) {
+                return false;
+            }
+            writes_all_at(&ops[1..], server, place)
+        }
+    }
 }
 
 /// Whether the writes voted are those of the operations at the server: its grants likely stand at the place.
 pub(crate) fn are_writes_at(server: u64, voted: &[Write], ops: &[Op], place: usize) -> bool
+    requires { open_spec.have_order ops.now ≡ true }
     ensures { result ≡ evidence.are_writes_at server voted.now (spec.writes_in ops.now) }
 {
     match ops {
@@ -204,7 +202,7 @@ pub(crate) fn lost_file<'a>(
     place: usize,
     lock: usize,
 ) -> Option<&'a FileName>
-    requires { spec.have_order ops.now ≡ true }
+    requires { open_spec.have_order ops.now ≡ true }
     ensures { option_copied result ≡ spec.lost_file ops.now vote.now }
 {
     match ops {
@@ -220,19 +218,16 @@ pub(crate) fn lost_file<'a>(
 
 /// Whether the vote covers the grants of its server, of which there is one at most.
 #[inline(always)]
-fn covers_op(vote: &Vote, op: &Op, place: usize, lock: usize) -> bool
+fn covers_op(vote: &Vote, op: &Op, likely: usize, lock: usize) -> bool
     requires { evidence.rises (evidence.servers_of op.now) ≡ true }
     ensures { result ≡ spec.covers_op vote.now op.now }
 {
     let grants = op.grants.as_slice();
-    if let Some(grant) = grants.get(place) {
-        if grant.server == vote.server {
-            return covers_at(vote, op.file, grant, lock);
-        }
+    let place = place_of_grant(grants, vote.server, likely);
+    if !is_granter_at(grants, vote.server, place) {
+        return true;
     }
-    grants
-        .iter()
-        .all(|grant| covers_grant(vote, op.file, grant))
+    covers_at(vote, op.file, &grants[place], lock)
 }
 
 /// Whether the vote covers the grant of its server: its lock likely stands at the place.
@@ -252,12 +247,6 @@ fn covers_at(vote: &Vote, file: FileName, grant: &Grant, lock: usize) -> bool
         }
     }
     vote.holds_since(file, grant.number)
-}
-
-fn covers_grant(vote: &Vote, file: FileName, grant: &Grant) -> bool
-    ensures { result ≡ spec.covers_grant vote.now file grant.now }
-{
-    vote.server != grant.server || vote.covers(file, grant)
 }
 
 /// Whether the server is above those of all the votes, which ascend.

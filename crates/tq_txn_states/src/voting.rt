@@ -1,25 +1,23 @@
 ghost use Rattle.std.specs.Prelude.{◌≡◌, ◌≤◌, true, None, Some, IfOk, IfErr, IfSome, OnOk, OnErr, OnSome};
 ghost use Rattle.tq_coterie.specs.Coterie.{numbers_of};
 ghost use Rattle.tq_evidence.specs.Evidence as evidence;
-ghost use Rattle.tq_txn_states.specs.Ballots.{with_ballots};
 ghost use Rattle.tq_txn_states.specs.Cited.{TakesVote};
 ghost use Rattle.tq_txn_states.specs.Ended as ending;
 ghost use Rattle.tq_txn_states.specs.Open.{ComesOf, HasVoters, IsBack};
 ghost use Rattle.tq_txn_states.specs.Sets as sets;
 ghost use Rattle.tq_txn_states.specs.Voting as spec;
-ghost use Rattle.tq_txn_states.specs.Voting.{prepare_ask, vote_fault, with_vote};
+ghost use Rattle.tq_txn_states.specs.Voting.{prepare_ask, vote_fault};
 
 use crate::ended::verdict_of;
 use crate::open::copy_of;
 use crate::told::told_again;
 use crate::votes::{
-    Cast, are_writes_at, cast_in, has_vote, has_votes, is_ask_at, is_server_of, lost_file,
+    Cast, are_writes_at, cast_in, has_vote, has_votes, is_ask_at, lost_file,
     place_of_server, put_vote, writes_all_at, writes_at,
 };
-use crate::{Ballots, DeskTold, Ended, NodeTold, Open, Ready, TxnFault};
+use crate::{DeskTold, Ended, NodeTold, Open, Ready, TxnFault};
 use std::alloc::Global;
 use std::marker::Model;
-use std::mem;
 use tq_asks::{NodeAsk, Verdict, WorkAsk};
 use tq_desk::{Op, Vote};
 use tq_shape::{Memory, ServerId, Shared, SharedSeq};
@@ -105,20 +103,19 @@ impl Voting {
         ensures fault { IfErr result (ComesOf (spec.ask_fault self.now.txn server.number)) }
         ensures memory { IfErr result (spec.IsOfVoter self.now.txn server.number) }
     {
+        if !self.txn.is_voter(server.number()) {
+            return Err(TxnFault::NotAVoter);
+        }
         if let Some(ask) = self.asked_before(server.number())? {
             return Ok(ask);
         }
-        match self.work(alloc, server) {
-            Ok(work) => Ok(NodeAsk::Work(Shared::new(alloc, work)?)),
-            Err(fault) => Err(fault),
-        }
+        let work = self.work_at(alloc, server.number())?;
+        Ok(NodeAsk::Work(Shared::new(alloc, work)?))
     }
 
     /// The ask for the server's vote, where it is the one that is kept.
     fn asked_before(&self, server: u64) -> Result<Option<NodeAsk>, Memory>
-        ensures voter { IfOk result (λ it. OnSome it (spec.ask_fault self.now.txn server ≡ None)) }
-        ensures ask { IfOk result (λ it. IfSome it (λ ask. ask ≡ prepare_ask self.now.txn server)) }
-        ensures memory { OnErr result (spec.ask_fault self.now.txn server ≡ None) }
+        ensures { IfOk result (λ it. IfSome it (λ ask. ask ≡ prepare_ask self.now.txn server)) }
     {
         let Some(ask) = &self.asked else {
             return Ok(None);
@@ -140,11 +137,17 @@ impl Voting {
         ensures fault { IfErr result (ComesOf (spec.ask_fault self.now.txn server.number)) }
         ensures memory { IfErr result (spec.IsOfVoter self.now.txn server.number) }
     {
-        let ops = self.txn.ops();
-        if !is_server_of(ops, server.number()) {
+        if !self.txn.is_voter(server.number()) {
             return Err(TxnFault::NotAVoter);
         }
-        let writes = writes_at(alloc, ops, server.number())?;
+        Ok(self.work_at(alloc, server.number())?)
+    }
+
+    /// The work that a server is asked for its vote.
+    fn work_at(&self, alloc: Global, server: u64) -> Result<WorkAsk, Memory>
+        ensures { IfOk result (λ work. work ≡ spec.prepare_work self.now.txn server) }
+    {
+        let writes = writes_at(alloc, self.txn.ops(), server)?;
         Ok(WorkAsk::Prepare {
             txn: self.txn.txn(),
             writes,
@@ -157,27 +160,11 @@ impl Voting {
         ensures fault { IfErr result (ComesOf (vote_fault self.old told.now)) }
     {
         let answer = told_again(told)?;
-        let ballots = self.room_for_vote()?;
-        self.vote_in(ballots, answer)
+        self.vote_by(answer)
     }
 
-    /// Hands out the votes, with room for one more. Out of memory leaves the transaction as it was.
-    pub fn room_for_vote(&mut self) -> Result<Ballots, Memory>
-        ensures value { IfOk result (λ ballots. with_ballots self.new ballots ≡ self.old) }
-        ensures room { IfOk result (λ ballots. 1 ≤ ballots.room) }
-        ensures good { IfOk result (λ ballots. spec.IsVoting self.old) }
-        ensures txn { self.new.txn ≡ self.old.txn }
-        ensures err { OnErr result (self.new ≡ self.old) }
-    {
-        self.make_room()?;
-        self.votes.reserve(1)?;
-        let none = Vec::new(self.txn.allocator());
-        Ok(Ballots::new(mem::replace(&mut self.votes, none)))
-    }
-
-    /// Makes room for the votes of all voters, where there is none yet.
-    #[inline(always)]
-    fn make_room(&mut self) -> Result<(), Memory>
+    /// Makes room for the votes of all voters, where there is none yet. Nothing else changes.
+    pub fn room_for_votes(&mut self) -> Result<(), Memory>
         ensures { self.new ≡ self.old }
     {
         if !self.votes.is_empty() {
@@ -187,33 +174,19 @@ impl Voting {
         Ok(())
     }
 
-    /// Takes the votes back as they were handed out. It takes no memory.
-    pub fn put_back(&mut self, ballots: Ballots)
-        requires { spec.IsVoting (with_ballots self.old ballots) }
-        ensures { self.new ≡ with_ballots self.old ballots }
+    /// Takes the vote that an answer tells of, in place of one of its server that is there. A fault leaves the
+    /// transaction as it was.
+    pub fn vote_by(&mut self, told: NodeTold) -> Result<(), TxnFault>
+        ensures vote { TakesVote self.old told self.new result }
+        ensures fault { IfErr result (ComesOf (vote_fault self.old told)) }
     {
-        self.votes = ballots.into_votes();
-    }
-
-    /// Takes the votes back, with the vote that an answer tells of, in place of one of its server that is there. It takes
-    /// no memory. A fault leaves the votes as they were handed out.
-    pub fn vote_in(&mut self, ballots: Ballots, told: NodeTold) -> Result<(), TxnFault>
-        requires good { spec.IsVoting (with_ballots self.old ballots) }
-        requires room { 1 ≤ ballots.room }
-        ensures vote { TakesVote (with_ballots self.old ballots) told self.new result }
-        ensures fault { IfErr result (λ fault.
-            vote_fault (with_ballots self.old ballots) told ≡ Some fault) }
-    {
-        match self.cast_by(told) {
-            Ok(cast) => {
-                self.put(ballots, cast);
-                Ok(())
-            }
-            Err(fault) => {
-                self.put_back(ballots);
-                Err(fault)
-            }
-        }
+        let cast = self.cast_by(told)?;
+        self.votes.reserve(1)?;
+        let Cast { vote, ask } = cast;
+        let server = vote.server;
+        put_vote(&mut self.votes, vote);
+        self.keep(server, ask);
+        Ok(())
     }
 
     /// The vote that an answer tells of, if it is good evidence.
@@ -244,22 +217,6 @@ impl Voting {
         ensures { IfOk result (λ votes. votes ≡ self.now.votes) }
     {
         copy_of(&self.votes)
-    }
-
-    /// Takes the votes back with a good one more, at its place, and keeps the ask that it answers. It takes no memory.
-    fn put(&mut self, ballots: Ballots, cast: Cast)
-        requires all { spec.IsVoting (with_ballots self.old ballots) }
-        requires room { 1 ≤ ballots.room }
-        requires good { spec.IsGoodVote self.old.txn.ops cast.vote }
-        ensures after { self.new ≡ record self.old { votes = with_vote cast.vote ballots.votes } }
-        ensures txn { self.new.txn ≡ self.old.txn }
-        ensures kept { spec.KeepsVotes ballots.votes self.new.votes }
-    {
-        let Cast { vote, ask } = cast;
-        self.keep(vote.server, ask);
-        let mut votes = ballots.into_votes();
-        put_vote(&mut votes, vote);
-        self.votes = votes;
     }
 
     /// Keeps the ask of a server, if it has all that the transaction writes and none is kept. It takes no memory.

@@ -12,7 +12,6 @@ use Rattle.tq_txn.specs.Told.{IsAnswered, is_ended}
 use Rattle.tq_txn.proofs.Deskless.{deskless_untold, deskless_abort_end}
 use Rattle.tq_txn.proofs.EndLaws.{resolved_answered, resolved_still, resolved_levels, resolved_ends, ends_refused, ends_answered, ends_before}
 use Rattle.tq_txn.specs.Dialogue.{ended_by}
-use Rattle.tq_txn.proofs.BreakLaws.{abort_unasked, abort_unended}
 use Rattle.tq_txn.proofs.AbortLaws.{abort_on, abort_off}
 use Rattle.tq_txn.proofs.aborts.abort.Goals as goal
 
@@ -29,7 +28,6 @@ returns-in-Err g c =
     let exchanges = c.in-Err.ensures.exchanges in
     record {
       asks = abort_off old number c.number-number.ensures now new fault c.from.result c.from.ensures exchanges;
-      memory = abort_unasked old number c.number-number.ensures now new fault c.from.result c.from.ensures exchanges;
       levels = search rules;
       still = still_same old old refl;
       verdict = ends_unasked old now new;
@@ -54,12 +52,11 @@ returns-in-Ok g c =
     let is = c.resolve_and_end.ensures in
     let answered = subst (IsAnswered old told) (sym is.value) (resolved_answered old told) in
     let first = knows_grow now asked (desk_exchange (Resolve number) (Ok told), desk.exchanges) old in
-    let more = grown_along line asked new end is.asked.asks in
+    let more = grown_along line asked new end is.asks in
     let ends : is_some (verdict_in (number_of old) told) ≡ true → is_ended after ≡ true = λ some. ap is_ended is.value ∙ resolved_ends old told some in
-    let untold = deskless_untold (number_of old) line asked new end (deskless_abort_end told.reply (txn_after_resolve old told)) is.asked.asks in
+    let untold = deskless_untold (number_of old) line asked new end (deskless_abort_end told.reply (txn_after_resolve old told)) is.asks in
     record {
-      asks = abort_on old number c.number-number.ensures now new asked told end desk.exchanges desk.same is.asked.asks;
-      memory = abort_unended old number c.number-number.ensures now new asked told answer after desk.exchanges desk.same is.asked.memory;
+      asks = abort_on old number c.number-number.ensures now new asked told end desk.exchanges desk.same is.asks;
       levels = ap levels_of is.value ∙ resolved_levels old told;
       still = subst (IsStill old) (sym is.value) (resolved_still old told);
       verdict = ends_as_told (Resolve number) told desk.same now asked new desk.exchanges more old after answered;

@@ -13,7 +13,6 @@ use Rattle.tq_txn.specs.States.{IsGathered}
 use Rattle.tq_coterie.specs.Coterie.{numbers_of}
 use Rattle.tq_txn.specs.Commits.{commit_line}
 use Rattle.tq_txn.specs.Dialogue.{ended_by}
-use Rattle.tq_txn.proofs.BreakLaws.{commit_asks, commit_stopped, commit_undecided, commit_unended}
 use Rattle.tq_txn.proofs.CommitLaws.{commit_on, commit_off, decide_on, decide_off}
 use Rattle.tq_txn.proofs.LineLaws.{follows_memory}
 use Rattle.tq_txn.proofs.commits.commit.Goals as goal
@@ -26,9 +25,6 @@ returns-in-Err-clause-kept g c = voted_on_same c.args.voting c.args.voting refl
 
 pub returns-in-Err-clause-ends : goal.returns-in-Err-clause-ends
 returns-in-Err-clause-ends g c = ends_nothing c.args.voting.txn.txn (g.A.Asker.told c.args.asker.now) (states.Voting c.args.voting)
-
-pub returns-in-Err-clause-memory : goal.returns-in-Err-clause-memory
-returns-in-Err-clause-memory g c = commit_asks c.args.voting (g.A.Asker.told c.args.asker.now) c.voters_of.ensures.exact
 
 pub returns-in-Err-prepare_each : goal.returns-in-Err-prepare_each
 returns-in-Err-prepare_each g c =
@@ -43,16 +39,15 @@ returns-in-Err-prepare_each g c =
     let deskless = deskless_prepares (numbers_of ids) voting in
     let end = ended_by c.prepare_each.result voted in
     let number = voting.txn.txn in
-    let untold = deskless_untold number line now mid end deskless c.prepare_each.ensures.asked.asks in
+    let untold = deskless_untold number line now mid end deskless c.prepare_each.ensures.asks in
     record {
-      asks = commit_off voting voted ids same now mid fault c.in-Err-prepare_each.ensures.asked.asks;
-      memory = commit_stopped voting voted ids same now mid fault c.in-Err-prepare_each.ensures.asked.memory;
+      asks = commit_off voting voted ids same now mid fault c.in-Err-prepare_each.ensures.asks;
       levels = search rules;
       kept = search rules;
       verdict = search rules;
       ends = ends_after number now mid mid (states.Voting voted) untold (ends_nothing number mid (states.Voting voted));
       knows = search rules;
-      cited = λ is. deskless_cites line now mid end deskless c.prepare_each.ensures.asked.asks;
+      cited = λ is. deskless_cites line now mid end deskless c.prepare_each.ensures.asks;
       tree = search rules;
     }
 
@@ -77,15 +72,14 @@ returns g c =
     let ends = subst (λ (v : OpenView). EndsWhereTold v.txn mid new txn) votes.kept.txn decided.ends in
     record {
       asks =
-          commit_on voting voted ids same now mid new (ended_by (Err fault) txn) c.in_default.ensures.asked.asks
+          commit_on voting voted ids same now mid new (ended_by (Err fault) txn) c.in_default.ensures.asks
           (decide_off voted answer txn mid new decided.asks fault c.in-Err-answer.is);
-      memory = commit_undecided voting voted ids same now mid c.in_default.ensures.asked.asks answer fault txn new c.in-Err-answer.is decided.memory;
       levels = search rules;
       kept = gathered_on voting voted txn votes.kept decided.kept;
-      verdict = ends_within voting voted txn now mid new new (grown_along line now mid end votes.asked.asks) ([], sym (append-nil new)) decided.verdict;
-      ends = ends_after number now mid new txn (deskless_untold number line now mid end deskless votes.asked.asks) ends;
+      verdict = ends_within voting voted txn now mid new new (grown_along line now mid end votes.asks) ([], sym (append-nil new)) decided.verdict;
+      ends = ends_after number now mid new txn (deskless_untold number line now mid end deskless votes.asks) ends;
       knows = search rules;
-      cited = λ is. cites_on now mid new (deskless_cites line now mid end deskless votes.asked.asks) (decided.cited (votes.knows is));
+      cited = λ is. cites_on now mid new (deskless_cites line now mid end deskless votes.asks) (decided.cited (votes.knows is));
       tree = search rules;
     }
 
@@ -107,30 +101,27 @@ returns-in-Ok-answer g c =
     let deskless = deskless_prepares (numbers_of ids) voting in
     let end = ended_by c.prepare_each.result voted in
     let votes = c.prepare_each.ensures in
-    let ending = c.end_committed.ensures.asked in
+    let ending = c.end_committed.ensures in
     let ended = ended_by c.end_committed.result.answer c.end_committed.result.txn in
     let number = voting.txn.txn in
     let ends = subst (λ (v : OpenView). EndsWhereTold v.txn mid last txn) votes.kept.txn decided.ends in
     let untold = deskless_untold number (commit_end serial txn) last new ended (deskless_commit_end serial txn) ending.asks in
-    let ends_all = ends_before number now last new txn (ends_after number now mid last txn (deskless_untold number line now mid end deskless votes.asked.asks) ends) untold in
+    let ends_all = ends_before number now last new txn (ends_after number now mid last txn (deskless_untold number line now mid end deskless votes.asks) ends) untold in
     let cited = deskless_cites (commit_end serial txn) last new ended (deskless_commit_end serial txn) ending.asks in
     let later = grown_along (commit_end serial txn) last new ended ending.asks in
-    let told = ends_within voting voted txn now mid last new (grown_along line now mid end votes.asked.asks) later decided.verdict in
+    let told = ends_within voting voted txn now mid last new (grown_along line now mid end votes.asks) later decided.verdict in
     let Q : Txn → Type 0 = λ t. EndsAsTold (states.Voting voting) now new t in
     let R : Txn → Type 0 = λ t. EndsWhereTold number now new t in
     let is = sym c.end_committed.ensures.same in
     record {
       asks =
-          commit_on voting voted ids same now mid new ended c.in_default.ensures.asked.asks
+          commit_on voting voted ids same now mid new ended c.in_default.ensures.asks
           (decide_on voted answer txn mid last decided.asks serial new ended c.in-Ok-answer.is ending.asks);
-      memory =
-          commit_unended voting voted ids same now mid c.in_default.ensures.asked.asks answer txn c.end_committed.result.txn serial c.end_committed.result.answer last new
-          c.in-Ok-answer.is decided.asks ending.memory;
       levels = search rules;
       kept = subst (IsGathered voting) is (gathered_on voting voted txn votes.kept decided.kept);
       verdict = subst Q is told;
       ends = subst R is ends_all;
       knows = search rules;
-      cited = λ before. cites_on now mid new (deskless_cites line now mid end deskless votes.asked.asks) (cites_on mid last new (decided.cited (votes.knows before)) cited);
+      cited = λ before. cites_on now mid new (deskless_cites line now mid end deskless votes.asks) (cites_on mid last new (decided.cited (votes.knows before)) cited);
       tree = search rules;
     }

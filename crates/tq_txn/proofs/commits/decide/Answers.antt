@@ -9,10 +9,8 @@ use Rattle.tq_txn.specs.Told.{EndsAsTold, EndsWhereTold, IsAnswered, is_ended}
 use Rattle.tq_txn.proofs.LineLaws.{told_desk}
 use Rattle.tq_txn.specs.declared.fault.LineFault.TheVariants.{Memory}
 use Rattle.tq_txn.specs.Commits.{decide_line}
-use Rattle.tq_txn.proofs.BreakLaws.{decide_unended, missing_unended, unfailed_never}
 use Rattle.tq_txn.proofs.CommitLaws.{decide_ready, ready_on}
-use Rattle.tq_txn.proofs.VoteLaws.{unasked_ask}
-use Rattle.tq_txn.proofs.EndLaws.{resolved_answered, resolved_still, resolved_levels, resolved_ends, ends_nothing, ends_refused, ends_answered, unasked_answered}
+use Rattle.tq_txn.proofs.EndLaws.{resolved_answered, resolved_still, resolved_levels, resolved_ends, ends_nothing, ends_refused, ends_answered}
 use Rattle.tq_txn_states.specs.Voting.{VotingView}
 use Rattle.std.proofs.Common.{◌≡◌, is_some, true, [], sym, subst, append-nil, ap}
 use Rattle.tq_txn_states.specs.Ended.{verdict_in}
@@ -51,25 +49,8 @@ returns-in-Err-clause-knows g c = λ is. subst (VotesOnly (answers_in (g.A.Asker
 pub returns-in-Err-evidence-clause-knows : goal.returns-in-Err-evidence-clause-knows
 returns-in-Err-evidence-clause-knows g c = λ is. subst (VotesOnly (answers_in (g.A.Asker.told c.args.asker.now))) (sym (c.into_voting.ensures ∙ c.in-Ok.ensures.succeeds.1)) is
 
-pub returns-in-Err-clause-memory : goal.returns-in-Err-clause-memory
-returns-in-Err-clause-memory g c = missing_unended c.args.voting (states.Voting c.in-Err.back.0) (g.A.Asker.told c.args.asker.now) c.in-Err.back.1 c.from.result c.in-Err.ensures.fault.1 c.from.ensures
-
-pub returns-in-Err-evidence-clause-memory : goal.returns-in-Err-evidence-clause-memory
-returns-in-Err-evidence-clause-memory g c =
-    let told = g.A.Asker.told c.args.asker.now in
-    decide_unended c.args.voting c.into_voting.result (Err Memory) told told c.in-Ok.ensures.succeeds.0 (c.into_voting.ensures ∙ c.in-Ok.ensures.succeeds.1) refl
-
-pub returns-in-Err-citations-clause-memory : goal.returns-in-Err-citations-clause-memory
-returns-in-Err-citations-clause-memory g c =
-    let told = g.A.Asker.told c.args.asker.now in
-    decide_unended c.args.voting c.into_voting-in-Err-citations.result (Err Memory) told told c.in-Ok.ensures.succeeds.0 (c.into_voting-in-Err-citations.ensures ∙ c.in-Ok.ensures.succeeds.1) refl
-
 pub returns-in-Err-desk-clause-kept : goal.returns-in-Err-desk-clause-kept
 returns-in-Err-desk-clause-kept g c = voted_on_same c.args.voting c.into_voting-in-Err-desk.result (c.into_voting-in-Err-desk.ensures ∙ c.in-Ok.ensures.succeeds.1)
-
-pub returns-in-Err-desk-clause-unasked : goal.returns-in-Err-desk-clause-unasked
-returns-in-Err-desk-clause-unasked g c =
-    unasked_ask ℕ _ c.in-Err-desk.fault c.from-in-Err-desk.result (g.A.Asker.told c.args.asker.now) (g.A.Asker.told c.desk.new.self) c.from-in-Err-desk.ensures c.in-Err-desk.ensures.exchanges
 
 pub returns-in-Err-desk-clause-ends : goal.returns-in-Err-desk-clause-ends
 returns-in-Err-desk-clause-ends g c =
@@ -87,13 +68,6 @@ returns-in-Err-desk-clause-cited g c =
     let now = g.A.Asker.told c.args.asker.now in
     let new = g.A.Asker.told c.desk.new.self in
     λ is. cites_ask now new c.in-Ok-evidence.ask (Err c.in-Err-desk.fault) c.in-Err-desk.ensures.exchanges (c.in-Ok-evidence.ensures.cited (answers_in now) (subst (VotesOnly (answers_in now)) (sym c.in-Ok.ensures.succeeds.1) is))
-
-pub returns-in-Err-desk-clause-memory : goal.returns-in-Err-desk-clause-memory
-returns-in-Err-desk-clause-memory g c =
-    let old = g.A.Asker.told c.args.asker.now in
-    let new = g.A.Asker.told c.desk.new.self in
-    decide_unended c.args.voting c.into_voting-in-Err-desk.result (Err c.from-in-Err-desk.result) old new c.in-Ok.ensures.succeeds.0 (c.into_voting-in-Err-desk.ensures ∙ c.in-Ok.ensures.succeeds.1)
-    (unasked_ask ℕ _ c.in-Err-desk.fault c.from-in-Err-desk.result old new c.from-in-Err-desk.ensures c.in-Err-desk.ensures.exchanges)
 
 pub returns-in-Ok-desk : goal.returns-in-Ok-desk
 returns-in-Ok-desk g c =
@@ -117,11 +91,9 @@ returns-in-Ok-desk g c =
     record {
       asks = decide_ready old ready answer after now new c.in-Ok.ensures.succeeds.0 same
           (ready_on ready ask c.in-Ok-evidence.ensures.value told answer after now new (told_desk ask told now new desk.exchanges desk.same) is.answer is.txn);
-      memory = unfailed_never answer after (decide_line old) now new (λ before later. unasked_answered told.reply answer before later is.answer);
       levels = ap levels_of is.txn ∙ resolved_levels (states.Voting ready) told ∙ ap (λ (v : VotingView). v.txn.levels) same;
       kept = subst Q same (subst (IsGathered ready) (sym is.txn) (resolved_still (states.Voting ready) told));
       verdict = subst P same (ends_as_told ask told desk.same now new new desk.exchanges ([], sym (append-nil new)) (states.Voting ready) after answered);
-      unasked = unasked_answered told.reply answer now new is.answer;
       ends = subst R same (ends_answered ready.txn.txn ask told now new after desk.same desk.exchanges ends);
       knows = λ known. knows_answered new (states.Voting ready) after told answered (subst (VotesOnly (answers_in new)) (sym same) (more known));
       cited = λ known. cites_ask now new ask (Ok told) desk.exchanges (c.in-Ok-evidence.ensures.cited (answers_in now) (subst (VotesOnly (answers_in now)) (sym same) known));

@@ -1,10 +1,8 @@
-use Rattle.std.proofs.Common.{◌≡◌, ◌==◌, List, true, drop}
+use Rattle.std.proofs.Common.{◌≡◌, ◌==◌, List, Option, true, drop}
 use Rattle.std.specs.List.{list_all}
-use Rattle.std.specs.Prelude.{Result}
 use Rattle.tq_coterie.specs.Coterie.{numbers_of}
 use Rattle.tq_txn_states.specs.Voting.{IsVotedOn, VotingView}
-use Rattle.tq_txn.specs.declared.fault.LineFault.{LineFault}
-use Rattle.tq_txn.specs.Dialogue.{IsTried}
+use Rattle.tq_txn.specs.Dialogue.{LineEnd, Follows}
 use Rattle.tq_txn.specs.Commits.{prepares_line}
 use Rattle.tq_txn.specs.Told.{IsKnown}
 use Rattle.tq_txn.specs.declared.asker.Exchange.{Exchange}
@@ -18,7 +16,7 @@ invariant-loop-server g l = record {
   of_tree : list_all (λ id. id.levels == g.A.Asker.levels l.asker) (drop l.server-index l.servers) ≡ true;
   kept : IsVotedOn l.initial.voting l.voting;
   knows : IsKnown states.Voting (g.A.Asker.told l.initial.asker) (g.A.Asker.told l.asker) l.initial.voting l.voting;
-  asked : (result : Result (Unit {0}) LineFault) (left : VotingView) (after : List Exchange)
-      → IsTried (prepares_line (numbers_of (drop l.server-index l.servers)) l.voting) (g.A.Asker.told l.asker) after result left
-      → IsTried (prepares_line (numbers_of l.servers) l.initial.voting) (g.A.Asker.told l.initial.asker) after result left;
+  asks : (after : List Exchange) (end : Option (LineEnd (Unit {0}) VotingView))
+      → Follows (prepares_line (numbers_of (drop l.server-index l.servers)) l.voting) (g.A.Asker.told l.asker) after end
+      → Follows (prepares_line (numbers_of l.servers) l.initial.voting) (g.A.Asker.told l.initial.asker) after end;
 }

@@ -1,9 +1,7 @@
-use Rattle.std.proofs.Common.{◌≡◌, ◌==◌, List, true, drop}
+use Rattle.std.proofs.Common.{◌≡◌, ◌==◌, List, Option, true, drop}
 use Rattle.std.specs.List.{list_all}
-use Rattle.std.specs.Prelude.{Result}
 use Rattle.tq_coterie.specs.Coterie.{numbers_of}
-use Rattle.tq_txn.specs.declared.fault.LineFault.{LineFault}
-use Rattle.tq_txn.specs.Dialogue.{IsAsked}
+use Rattle.tq_txn.specs.Dialogue.{LineEnd, Follows}
 use Rattle.tq_txn.specs.Lines.{ending_line}
 use Rattle.tq_txn.specs.declared.asker.Exchange.{Exchange}
 use Rattle.tq_txn.proofs.endings.end_by.Given as goal
@@ -13,7 +11,7 @@ abbrev pub invariant-loop-server : goal.invariant-loop-server
 invariant-loop-server g l = record {
   tree : g.A.Asker.levels l.asker ≡ g.A.Asker.levels l.initial.asker;
   of_tree : list_all (λ id. id.levels == g.A.Asker.levels l.asker) (drop l.server-index l.servers) ≡ true;
-  asked : (result : Result (Unit {0}) LineFault) (after : List Exchange)
-      → IsAsked (ending_line l.ended (numbers_of (drop l.server-index l.servers))) (g.A.Asker.told l.asker) after result tt
-      → IsAsked (ending_line l.ended (numbers_of l.servers)) (g.A.Asker.told l.initial.asker) after result tt;
+  asks : (after : List Exchange) (end : Option (LineEnd (Unit {0}) (Unit {0})))
+      → Follows (ending_line l.ended (numbers_of (drop l.server-index l.servers))) (g.A.Asker.told l.asker) after end
+      → Follows (ending_line l.ended (numbers_of l.servers)) (g.A.Asker.told l.initial.asker) after end;
 }

@@ -1,7 +1,7 @@
 use Rattle.std.proofs.Common.{◌∙◌, Some, Ok, subst}
 use Rattle.tq_asks.specs.declared.ask.NodeAsk.{NodeAsk}
 use Rattle.tq_txn.specs.Dialogue.{Follows, node_line}
-use Rattle.tq_txn.proofs.GrantLaws.{asked_lock, heard_at, unasked_lock}
+use Rattle.tq_txn.proofs.GrantLaws.{asked_lock, heard_at}
 use Rattle.tq_txn.proofs.KnownLaws.{told_last}
 use Rattle.tq_txn.proofs.LineLaws.{told_node}
 use Rattle.tq_txn.proofs.operations.lock_at.Goals as goal
@@ -22,8 +22,3 @@ returns-in-Ok-clause-heard g c =
     let new = g.A.Asker.told c.node.new.self in
     heard_at c.args.txn file c.in-Ok.told c.granted_lock.result new (c.granted_lock.ensures.told c.args.txn file (c.in-Ok.ensures.same.1 ∙ c.requires.ask))
     (told_last c.args.server.number c.args.ask c.in-Ok.told (g.A.Asker.told c.args.asker.now) new c.in-Ok.ensures.exchanges c.in-Ok.ensures.same.0 c.in-Ok.ensures.same.1)
-
-pub returns-in-Ok-clause-unasked : goal.returns-in-Ok-clause-unasked
-returns-in-Ok-clause-unasked g c =
-    let file = c.args.lock.now.file in
-    unasked_lock c.args.txn file c.in-Ok.told c.granted_lock.result (g.A.Asker.told c.args.asker.now) (g.A.Asker.told c.node.new.self) (c.granted_lock.ensures.told c.args.txn file (c.in-Ok.ensures.same.1 ∙ c.requires.ask))

@@ -2,7 +2,8 @@ use Rattle.std.proofs.Common.{◌≡◌, ◌==◌, List, true, drop}
 use Rattle.std.specs.List.{list_all}
 use Rattle.std.specs.Prelude.{Result}
 use Rattle.tq_coterie.specs.Coterie.{numbers_of}
-use Rattle.tq_txn_states.specs.Granting.{CanGrant, GrantingView}
+use Rattle.tq_evidence.specs.declared.grant.Grant.{Grant}
+use Rattle.tq_txn_states.specs.Open.{OpenView}
 use Rattle.tq_txn.specs.declared.fault.LineFault.{LineFault}
 use Rattle.tq_txn.specs.Lines.{IsLocking, lock_ask, locks_line}
 use Rattle.tq_txn.specs.declared.asker.Exchange.{Exchange}
@@ -13,9 +14,9 @@ abbrev pub invariant-loop-server : goal.invariant-loop-server
 invariant-loop-server g l = record {
   tree : g.A.Asker.levels l.asker ≡ g.A.Asker.levels l.initial.asker;
   of_tree : list_all (λ id. id.levels == g.A.Asker.levels l.asker) (drop l.server-index l.servers) ≡ true;
+  same : l.open.levels ≡ g.A.Asker.levels l.asker;
   ask : l.ask ≡ lock_ask l.open.txn l.lock.file l.lock.mode;
-  room : CanGrant l.open.levels l.granting (numbers_of (drop l.server-index l.servers));
-  locks : (later : List Exchange) (new : GrantingView) (result : Result (Unit {0}) LineFault)
-      → IsLocking l.open l.lock (locks_line l.lock.file l.lock.mode (numbers_of (drop l.server-index l.servers))) (numbers_of (drop l.server-index l.servers)) (g.A.Asker.told l.asker) later l.granting new result
-      → IsLocking l.open l.lock (locks_line l.lock.file l.lock.mode (numbers_of l.servers)) (numbers_of l.servers) (g.A.Asker.told l.initial.asker) later l.initial.granting new result;
+  locks : (later : List Exchange) (new : OpenView) (after : List Grant) (result : Result (Unit {0}) LineFault)
+      → IsLocking l.lock (locks_line l.lock.file l.lock.mode (numbers_of (drop l.server-index l.servers))) (numbers_of (drop l.server-index l.servers)) (g.A.Asker.told l.asker) later l.open new l.grants.items after result
+      → IsLocking l.lock (locks_line l.lock.file l.lock.mode (numbers_of l.servers)) (numbers_of l.servers) (g.A.Asker.told l.initial.asker) later l.initial.open new l.initial.grants.items after result;
 }

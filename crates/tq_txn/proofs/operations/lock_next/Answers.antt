@@ -1,70 +1,88 @@
-use Rattle.std.proofs.Common.{◌++◌, ℕ, [], ◌∷◌, Some, Ok, Err, refl, subst}
+use Rattle.std.proofs.Common.{◌≡◌, ◌∙◌, ◌++◌, ℕ, [], ◌∷◌, Some, Result, Ok, Err, sym, ap, subst, rules}
 use Rattle.std.specs.List.{Contains}
+use Rattle.tq_asks.specs.declared.ask.NodeAsk.{NodeAsk}
 use Rattle.tq_txn_states.specs.Cited.{grant_told}
-use Rattle.tq_txn_states.specs.Open.{touched_by}
+use Rattle.tq_txn_states.specs.Open.{OpenView, touched_by}
 use Rattle.tq_txn_states.specs.declared.told.NodeTold.{NodeTold}
-use Rattle.tq_txn.specs.Lines.{LocksView, lock_line, locks_of}
+use Rattle.tq_txn.specs.declared.fault.LineFault.{LineFault}
+use Rattle.tq_txn.specs.declared.fault.LineFault.TheVariants.{Memory}
+use Rattle.tq_txn.specs.Lines.{IsLocking, lock_ask, lock_line, next_lock, without_ask}
 use Rattle.tq_txn.specs.Told.{answers_in}
-use Rattle.tq_txn.specs.Dialogue.{Follows, line_done, ended_by}
-use Rattle.tq_txn.proofs.GrantLaws.{answers_push, granters_push, modes_push, next_locked, noted_push}
-use Rattle.tq_txn.proofs.KnownLaws.{told_same, told_push}
-use Rattle.tq_txn.proofs.LineLaws.{follows_off}
-use Rattle.tq_txn.proofs.LockBreaks.{next_unfailed}
-use Rattle.tq_txn.proofs.ToldLaws.{grown_along}
-use Rattle.tq_txn_states.proofs.GrantingLaws.{grown_same}
+use Rattle.tq_txn.specs.Dialogue.{Follows, ended_by}
+use Rattle.tq_txn.proofs.LockingLaws.{locked_next, unasked_next, unlocked_next, unnoted_next}
 use Rattle.tq_txn.proofs.operations.lock_next.Goals as goal
 
-pub push-requires-clause-server : goal.push-requires-clause-server
-push-requires-clause-server g c = c.in-Ok.ensures.grant.0
+pub lock_at-requires-clause-ask : goal.lock_at-requires-clause-ask
+lock_at-requires-clause-ask g c =
+    let same = c.txn.ensures ∙ ap (λ (v : OpenView). v.txn) c.room_to_touch.ensures in
+    c.requires.ask ∙ ap (λ txn. lock_ask txn c.args.lock.now.file c.args.lock.now.mode) (sym same)
 
-pub push-requires-clause-room : goal.push-requires-clause-room
-push-requires-clause-room g c = rw (c.requires.of_tree, ← c.requires.same) c.requires.room
+pub touch-requires : goal.touch-requires
+touch-requires g c = c.requires.of_tree ∙ sym c.requires.same ∙ ap (λ (v : OpenView). v.levels) (sym c.room_to_touch.ensures)
 
-pub returns-clause-room : goal.returns-clause-room
-returns-clause-room g c = rw (c.requires.same, ← c.requires.of_tree) c.push.ensures.room
+pub returns-clause-ask : goal.returns-clause-ask
+returns-clause-ask g c =
+    let same = c.txn.ensures ∙ ap (λ (v : OpenView). v.txn) c.room_to_touch.ensures in
+    c.in-Ok.ensures.ask ∙ ap (λ txn. lock_ask txn c.args.lock.now.file c.args.lock.now.mode) same ∙ sym c.requires.ask
+
+pub returns-in_err-room_to_touch-clause-locks : goal.returns-in_err-room_to_touch-clause-locks
+returns-in_err-room_to_touch-clause-locks g c =
+    let lock = c.args.lock.now in
+    let number = c.args.server.number in
+    let told = g.A.Asker.told c.args.asker.now in
+    let grants = c.args.grants.now.items in
+    let fault : Err Memory ≡ c.from_residual.result = Prim.search (c.from_residual.ensures, rules) in
+    let P : Result NodeAsk LineFault → Type 0 = λ r. IsLocking lock (next_lock lock.file lock.mode number) (number ∷ []) told told c.args.open.now c.room_to_touch.new.self grants grants (without_ask r) in
+    subst P fault (unasked_next lock number told c.args.open.now c.room_to_touch.new.self grants grants c.room_to_touch.ensures (λ i. grants))
+
+pub returns-in_err-reserve-clause-locks : goal.returns-in_err-reserve-clause-locks
+returns-in_err-reserve-clause-locks g c =
+    let lock = c.args.lock.now in
+    let number = c.args.server.number in
+    let told = g.A.Asker.told c.args.asker.now in
+    let before = c.args.grants.now.items in
+    let after = c.reserve.new.self.items in
+    let fault : Err Memory ≡ c.from_residual-in_err-reserve.result = Prim.search (c.from_residual-in_err-reserve.ensures, rules) in
+    let P : Result NodeAsk LineFault → Type 0 = λ r. IsLocking lock (next_lock lock.file lock.mode number) (number ∷ []) told told c.args.open.now c.room_to_touch.new.self before after (without_ask r) in
+    subst P fault (unasked_next lock number told c.args.open.now c.room_to_touch.new.self before after c.room_to_touch.ensures c.reserve.ensures.items)
 
 pub returns-in-Err-clause-locks : goal.returns-in-Err-clause-locks
 returns-in-Err-clause-locks g c =
-    let file = c.args.lock.now.file in
-    let mode = c.args.lock.now.mode in
+    let lock = c.args.lock.now in
     let number = c.args.server.number in
-    let txn = c.args.open.now.txn in
     let told = g.A.Asker.told c.args.asker.now in
-    let after = g.A.Asker.told c.lock_at.new.asker in
-    let old : LocksView = locks_of file c.args.open.now c.args.granting.now in
-    let P : ℕ → Type 0 = λ t. Follows (lock_line t file mode number) told after (ended_by {A = NodeTold} (Err c.in-Err.fault) tt) in
-    let asked = subst P c.txn.ensures c.in-Err.ensures.asks in
-    let more = grown_along (lock_line txn file mode number) told after (ended_by {A = NodeTold} (Err c.in-Err.fault) tt) asked in
-    record {
-      asks = follows_off (lock_line txn file mode number) (λ none. old) (λ told none. line_done tt (record { answers = old.answers ++ told ∷ []; txn = touched_by old.txn number })) c.in-Err.fault tt old told after refl asked;
-      memory = next_unfailed file mode number old c.in-Err.fault told after c.in-Err.ensures.unasked;
-      grown = grown_same c.args.granting.now;
-      heard = told_same told after old.answers old.answers refl more;
-      servers = tt;
-      modes = λ before. before;
-    }
+    let mid = g.A.Asker.told c.lock_at.new.asker in
+    let same = c.txn.ensures ∙ ap (λ (v : OpenView). v.txn) c.room_to_touch.ensures in
+    let P : ℕ → Type 0 = λ txn. Follows (lock_line txn lock.file lock.mode number) told mid (ended_by {A = NodeTold} (Err c.in-Err.fault) tt) in
+    unlocked_next lock number told mid c.args.open.now c.room_to_touch.new.self c.args.grants.now.items c.reserve.new.self.items c.in-Err.fault c.room_to_touch.ensures c.reserve.ensures.items (subst P same c.in-Err.ensures.asks)
+
+pub returns-in_err-touch-clause-locks : goal.returns-in_err-touch-clause-locks
+returns-in_err-touch-clause-locks g c =
+    let lock = c.args.lock.now in
+    let number = c.args.server.number in
+    let open_txn = c.args.open.now in
+    let grant = c.in-Ok.locked.0 in
+    let told = g.A.Asker.told c.args.asker.now in
+    let mid = g.A.Asker.told c.lock_at.new.asker in
+    let before = c.args.grants.now.items in
+    let after = c.reserve.new.self.items in
+    let same = c.txn.ensures ∙ ap (λ (v : OpenView). v.txn) c.room_to_touch.ensures in
+    let fault : Err Memory ≡ c.from_residual-in_err-touch.result = Prim.search (c.from_residual-in_err-touch.ensures, rules) in
+    let P : Result NodeAsk LineFault → Type 0 = λ r. IsLocking lock (next_lock lock.file lock.mode number) (number ∷ []) told mid open_txn c.touch.new.self before after (without_ask r) in
+    let Q : ℕ → Type 0 = λ txn. Follows (lock_line txn lock.file lock.mode number) told mid (Some (record { answer = Ok (grant_told txn lock.file grant); after = tt })) in
+    subst P fault (unnoted_next lock number told mid open_txn c.touch.new.self before after (grant_told open_txn.txn lock.file grant) (c.in_err-touch.ensures.err ∙ c.room_to_touch.ensures) c.reserve.ensures.items (subst Q same c.in-Ok.ensures.asks))
 
 pub returns-clause-locks : goal.returns-clause-locks
 returns-clause-locks g c =
-    let file = c.args.lock.now.file in
-    let mode = c.args.lock.now.mode in
+    let lock = c.args.lock.now in
     let number = c.args.server.number in
-    let txn = c.args.open.now.txn in
+    let open_txn = c.args.open.now in
     let grant = c.in-Ok.locked.0 in
     let told = g.A.Asker.told c.args.asker.now in
-    let after = g.A.Asker.told c.lock_at.new.asker in
-    let old : LocksView = locks_of file c.args.open.now c.args.granting.now in
-    let new : LocksView = locks_of file c.args.open.now c.push.new.self in
-    let P : ℕ → Type 0 = λ t. Follows (lock_line t file mode number) told after (Some (record { answer = Ok (grant_told t file grant); after = tt })) in
-    let asked = subst P c.txn.ensures c.in-Ok.ensures.asks in
-    let more = grown_along (lock_line txn file mode number) told after (Some (record { answer = Ok (grant_told txn file grant); after = tt })) asked in
-    let here = subst (λ t. Contains (answers_in after) (grant_told t file grant)) c.txn.ensures c.in-Ok.ensures.heard in
-    let pushed = answers_push txn file c.args.granting.now.grants c.push.new.self.grants grant c.push.ensures.grants in
-    record {
-      asks = next_locked file mode number txn old new (grant_told txn file grant) told after refl pushed (noted_push c.args.open.now c.args.granting.now c.push.new.self number c.push.ensures.grown c.push.ensures.touched) asked;
-      memory = tt;
-      grown = c.push.ensures.grown;
-      heard = told_push told after old.answers old.answers new.answers (grant_told txn file grant) refl pushed more here;
-      servers = granters_push c.args.granting.now.grants c.push.new.self.grants grant number c.push.ensures.grants c.in-Ok.ensures.grant.0;
-      modes = modes_push mode c.args.granting.now.grants c.push.new.self.grants grant c.push.ensures.grants c.in-Ok.ensures.grant.1;
-    }
+    let mid = g.A.Asker.told c.lock_at.new.asker in
+    let same = c.txn.ensures ∙ ap (λ (v : OpenView). v.txn) c.room_to_touch.ensures in
+    let Q : ℕ → Type 0 = λ txn. Follows (lock_line txn lock.file lock.mode number) told mid (Some (record { answer = Ok (grant_told txn lock.file grant); after = tt })) in
+    let R : ℕ → Type 0 = λ txn. Contains (answers_in mid) (grant_told txn lock.file grant) in
+    let noted = c.in_ok-touch.ensures.ok ∙ ap (λ (v : OpenView). touched_by v number) c.room_to_touch.ensures in
+    let more = c.push_reserved.ensures.items ∙ ap (λ gs. gs ++ grant ∷ []) c.reserve.ensures.items in
+    locked_next lock number told mid open_txn c.touch.new.self c.args.grants.now.items c.push_reserved.new.self.items grant noted more c.in-Ok.ensures.grant (subst Q same c.in-Ok.ensures.asks) (subst R same c.in-Ok.ensures.heard)

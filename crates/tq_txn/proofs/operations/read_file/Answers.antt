@@ -2,7 +2,6 @@ use Rattle.std.proofs.Common.{sym, ap, ◌∙◌}
 use Rattle.std.specs.Option.{option_copied}
 use Rattle.tq_txn.specs.Dialogue.{ended_by}
 use Rattle.tq_locks.specs.declared.mode.Mode.TheVariants.{Shared}
-use Rattle.tq_txn.proofs.LockBreaks.{noted_same}
 use Rattle.tq_txn.proofs.GrantLaws.{unused}
 use Rattle.tq_txn.proofs.LineLaws.{first_of_reads}
 use Rattle.std.proofs.Common.{rules}
@@ -19,9 +18,3 @@ returns-clause-asks g c =
 pub read_at_quorum-requires-clause-fresh : goal.read_at_quorum-requires-clause-fresh
 read_at_quorum-requires-clause-fresh g c =
     unused c.args.open.now c.args.file.now (sym c.pending.ensures ∙ ap option_copied c.in_default.is) (sym c.seen.ensures ∙ ap option_copied c.in_default-seen.is)
-
-pub returns-in_err-clone-clause-memory : goal.returns-in_err-clone-clause-memory
-returns-in_err-clone-clause-memory g c = noted_same c.from_residual.result c.args.file.now Shared c.args.open.now (g.A.Asker.told c.args.asker.now)
-
-pub returns-in_err-clone-2-clause-memory : goal.returns-in_err-clone-2-clause-memory
-returns-in_err-clone-2-clause-memory g c = noted_same c.from_residual-in_err-clone-2.result c.args.file.now Shared c.args.open.now (g.A.Asker.told c.args.asker.now)

@@ -3,7 +3,6 @@ use Rattle.std.specs.Option.{option_copied}
 use Rattle.tq_txn.specs.Dialogue.{ended_by}
 use Rattle.tq_txn.proofs.GrantLaws.{unwritten}
 use Rattle.tq_txn.proofs.LineLaws.{first_of_writes}
-use Rattle.tq_txn.proofs.LockBreaks.{unfailed_writes}
 use Rattle.tq_txn.specs.Told.{answers_in}
 use Rattle.tq_txn.proofs.operations.write_file.Goals as goal
 
@@ -17,8 +16,3 @@ returns-clause-asks g c =
 
 pub write_at_quorum-requires-clause-fresh : goal.write_at_quorum-requires-clause-fresh
 write_at_quorum-requires-clause-fresh g c = unwritten c.args.open.now c.args.file.now (sym c.op_written.ensures ∙ ap option_copied c.in_default.is)
-
-pub returns-clause-memory : goal.returns-clause-memory
-returns-clause-memory g c =
-    unfailed_writes c.args.open.now c.args.file.now c.args.content c.write_at_quorum.result c.write_at_quorum.new.open (g.A.Asker.told c.args.asker.now) (g.A.Asker.told c.write_at_quorum.new.asker)
-    (sym c.op_written.ensures ∙ ap option_copied c.in_default.is) (sym c.is_full.ensures ∙ c.if-is_full.false) c.write_at_quorum.ensures.memory

@@ -3,7 +3,6 @@ use Rattle.tq_txn.specs.declared.txn.Txn.TheVariants as states
 use Rattle.tq_txn.specs.Dialogue.{ended_by}
 use Rattle.tq_txn.specs.Lines.{stop_line}
 use Rattle.tq_txn.proofs.KnownLaws.{knows_grow}
-use Rattle.tq_txn.proofs.BreakLaws.{stopping_refused, stopping_unended}
 use Rattle.tq_txn.proofs.StopLaws.{vote_unstopped}
 use Rattle.tq_txn.proofs.ToldLaws.{grown_along}
 use Rattle.tq_txn.proofs.stops.prepare_stopping.Goals as goal
@@ -24,12 +23,3 @@ returns-in-Err-stop_at-clause-knows g c =
     let old = g.A.Asker.told c.args.asker.now in
     let new = g.A.Asker.told c.stop_at.new.asker in
     knows_grow old new (grown_along (stop_line c.args.server.number c.in-Ok.work c.args.after) old new (ended_by (Err c.in-Err-stop_at.fault) tt) c.in-Err-stop_at.ensures.asks) (states.Voting c.args.voting.now)
-
-pub returns-in-Err-stop_at-clause-memory : goal.returns-in-Err-stop_at-clause-memory
-returns-in-Err-stop_at-clause-memory g c =
-    stopping_unended c.args.voting.now c.args.server.number c.args.after c.in-Ok.work c.in-Err-stop_at.fault (g.A.Asker.told c.args.asker.now) (g.A.Asker.told c.stop_at.new.asker)
-    (sym c.has_vote.ensures ∙ c.if-has_vote.false) c.in-Ok.ensures.succeeds c.in-Ok.ensures.value c.in-Err-stop_at.ensures.memory
-
-pub returns-in-Err-clause-memory : goal.returns-in-Err-clause-memory
-returns-in-Err-clause-memory g c =
-    stopping_refused c.args.voting.now c.args.server.number c.args.after c.in-Err.fault c.from.result (g.A.Asker.told c.args.asker.now) c.from.ensures (sym c.has_vote.ensures ∙ c.if-has_vote.false) c.in-Err.ensures.memory

@@ -1,10 +1,8 @@
 use Rattle.std.proofs.Common.{ℕ, Some, None, Ok, Err, subst}
 use Rattle.tq_asks.specs.declared.ask.NodeAsk.TheVariants.{CrashIn}
 use Rattle.tq_asks.specs.declared.ask.WorkAsk.{WorkAsk}
-use Rattle.tq_txn.specs.declared.fault.LineFault.TheVariants.{Memory}
-use Rattle.tq_txn.specs.Dialogue.{Follows, IsUnfailed, ended_by}
+use Rattle.tq_txn.specs.Dialogue.{Follows, ended_by}
 use Rattle.tq_txn.specs.Lines.{any_line, down_line, stop_line}
-use Rattle.tq_txn.proofs.BreakLaws.{stop_asks, stop_unended, unfailed_first, unfailed_same}
 use Rattle.tq_txn.proofs.StopLaws.{stop_off, stop_on}
 use Rattle.tq_txn.proofs.stops.stop_at.Goals.{in-Ok, in-Err}
 use Rattle.tq_txn.proofs.stops.stop_at.Goals as goal
@@ -20,28 +18,8 @@ returns-clause-asks g c =
           let P : WorkAsk → Type 0 = λ a. Follows (any_line server (CrashIn c.args.after a)) old mid (Some (record { answer = Ok w.in-Ok.field-0; after = tt })) in
           let Q : ℕ → Type 0 = λ n. Follows (down_line n) mid new (ended_by w.mark_down.result tt) in
           rw (w.asker-is, w.result-is)
-          (stop_on server c.args.ask c.args.after old w.in-Ok.field-0 mid new (ended_by w.mark_down.result tt) (subst P c.in_ok-ask.ensures w.in-Ok.ensures.asks) (subst Q w.number.ensures.value w.mark_down.ensures.asked.asks))
+          (stop_on server c.args.ask c.args.after old w.in-Ok.field-0 mid new (ended_by w.mark_down.result tt) (subst P c.in_ok-ask.ensures w.in-Ok.ensures.asks) (subst Q w.number.ensures.value w.mark_down.ensures.asks))
       | in-Err w ↦
           let P : WorkAsk → Type 0 = λ a. Follows (any_line server (CrashIn c.args.after a)) old mid None in
           rw (w.asker-is, w.result-is) (stop_off server c.args.ask c.args.after old mid (subst P c.in_ok-ask.ensures w.in-Err.ensures.err))
-    ]
-
-pub returns-in_err-ask-clause-memory : goal.returns-in_err-ask-clause-memory
-returns-in_err-ask-clause-memory g c =
-    let told = g.A.Asker.told c.args.asker.now in
-    unfailed_same c.from_residual.result tt (stop_line c.args.server.number c.args.ask c.args.after) told (stop_asks c.args.server.number c.args.ask c.args.after told)
-
-pub returns-clause-memory : goal.returns-clause-memory
-returns-clause-memory g c =
-    let server = c.args.server.number in
-    let old = g.A.Asker.told c.args.asker.now in
-    let mid = g.A.Asker.told c.ask_any.new.asker in
-    elim c.match-ask_any.branch [
-      | in-Ok w ↦
-          let new = g.A.Asker.told w.mark_down.new.asker in
-          let P : WorkAsk → Type 0 = λ a. Follows (any_line server (CrashIn c.args.after a)) old mid (Some (record { answer = Ok w.in-Ok.field-0; after = tt })) in
-          let Q : ℕ → Type 0 = λ n. IsUnfailed w.mark_down.result tt (down_line n) mid new in
-          rw (w.asker-is, w.result-is)
-          (stop_unended server c.args.ask c.args.after w.in-Ok.field-0 w.mark_down.result old mid new (subst P c.in_ok-ask.ensures w.in-Ok.ensures.asks) (subst Q w.number.ensures.value w.mark_down.ensures.asked.memory))
-      | in-Err w ↦ rw (w.asker-is, w.result-is) (unfailed_first (Err Memory) tt (stop_line server c.args.ask c.args.after) old mid (stop_asks server c.args.ask c.args.after old) w.in-Err.ensures.unasked)
     ]

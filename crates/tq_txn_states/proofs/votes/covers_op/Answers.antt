@@ -1,14 +1,26 @@
-use Rattle.std.proofs.Common.{◌≡◌, ◌∙◌, Some, List, slice_get, refl, sym, ap}
-use Rattle.std.proofs.lemmas.Bool.{ltb-true}
+use Rattle.std.proofs.Common.{◌==◌, ◌≡◌, ◌∙◌, false, true, Some, List, slice_get, refl, sym, ap, subst}
+use Rattle.std.specs.List.{list_all, list_any}
 use Rattle.std.proofs.lemmas.Option.{slice_get_read}
 use Rattle.tq_evidence.specs.declared.grant.Grant.{Grant}
-use Rattle.tq_txn_states.proofs.OneGrant.{one_covers}
+use Rattle.tq_evidence.specs.Evidence.{granters, rises}
+use Rattle.tq_txn_states.specs.Voting.{covers_grant}
+use Rattle.tq_txn_states.proofs.OneGrant.{granter_is, none_to_cover, one_covers}
 use Rattle.tq_txn_states.proofs.votes.covers_op.Goals as goal
 
-pub returns-then-grant-vote : goal.returns-then-grant-vote
-returns-then-grant-vote c =
-    let found = c.in-Some.ensures.lookup in
+pub returns-then-not-is_granter_at : goal.returns-then-not-is_granter_at
+returns-then-not-is_granter_at c =
+    let vote = c.args.vote.now in
+    let file = c.args.op.now.file in
+    let none = sym c.place_of_grant-place.ensures ∙ sym c.is_granter_at.ensures.value ∙ c.if-not-is_granter_at.true in
+    sym (ap (list_all (covers_grant vote file)) (sym c.as_slice-grants.ensures) ∙ none_to_cover vote file c.as_slice-grants.result.now none)
+
+pub returns : goal.returns
+returns c =
+    let vote = c.args.vote.now in
+    let file = c.args.op.now.file in
     let grants = c.as_slice-grants.result.now in
-    let at = slice_get_read grants _ c.args.place c.in-Some.grant.now refl (ltb-true _ _ (sym found.0)) found.1 in
-    let there : slice_get c.args.op.now.grants c.args.place ≡ Some c.in-Some.grant.now = ap (λ (gs : List Grant). slice_get gs c.args.place) (sym c.as_slice-grants.ensures) ∙ at in
-    c.covers_at.ensures ∙ one_covers c.args.vote.now c.args.op.now.file c.args.op.now.grants c.args.place c.in-Some.grant.now c.requires there c.if-grant-vote.true
+    let grant = c.index-grants-place.result in
+    let is = sym c.is_granter_at.ensures.value ∙ c.if-not-is_granter_at.false in
+    let at : slice_get grants c.place_of_grant-place.result ≡ Some grant = slice_get_read grants _ c.place_of_grant-place.result grant refl (c.is_granter_at.ensures.within c.if-not-is_granter_at.false) c.index-grants-place.is in
+    let up = subst (λ (gs : List Grant). rises (granters gs) ≡ true) (sym c.as_slice-grants.ensures) c.requires in
+    c.covers_at.ensures ∙ one_covers vote file grants c.place_of_grant-place.result grant up at (granter_is vote.server grants c.place_of_grant-place.result grant at is) ∙ ap (list_all (covers_grant vote file)) c.as_slice-grants.ensures

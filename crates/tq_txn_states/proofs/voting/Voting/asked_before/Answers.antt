@@ -7,8 +7,8 @@ use Rattle.tq_txn_states.specs.Voting.{HasWhole, writes_all_at, write_in, writes
 use Rattle.tq_txn_states.proofs.SameWrites.{writes_all}
 use Rattle.tq_txn_states.proofs.voting.Voting.asked_before.Goals as goal
 
-pub returns-clause-ask : goal.returns-clause-ask
-returns-clause-ask c =
+pub returns : goal.returns
+returns c =
     let f = c.self.inside in
     let whole : c.in-Some.ask ≡ Work (Prepare f.txn.txn (map write_in (writes_in f.txn.ops))) = subst (HasWhole f.txn) c.in-Some.is c.self.invariant.1 in
     let all : writes_all_at f.txn.ops c.args.server ≡ true = ap (λ (ops : List Op). writes_all_at ops c.args.server) (sym c.ops-ops.ensures.value) ∙ sym c.writes_all_at.ensures ∙ c.if-not-writes_all_at.false in

@@ -4,11 +4,7 @@ use Rattle.tq_evidence.specs.declared.op.Op.{Op}
 use Rattle.tq_evidence.specs.Evidence.{is_server_of, are_quorums, are_writes_at}
 use Rattle.tq_txn_states.specs.Voting.{lost_file, vote_of, writes_in}
 use Rattle.tq_txn_states.proofs.GoodVotes.{none_lost}
-use Rattle.tq_txn_states.proofs.OneGrant.{quorums-order}
 use Rattle.tq_txn_states.proofs.voting.Voting.cast_by.Goals as goal
-
-pub lost_file-requires : goal.lost_file-requires
-lost_file-requires c = quorums-order c.self.inside.txn.levels c.ops-ops.result.now (ap (are_quorums c.self.inside.txn.levels) c.ops-ops.ensures.value ∙ c.ops-ops.ensures.good.quorums)
 
 pub returns-clause-good : goal.returns-clause-good
 returns-clause-good c =

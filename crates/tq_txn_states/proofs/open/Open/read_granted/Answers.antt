@@ -1,0 +1,15 @@
+use Rattle.std.proofs.Common.{◌≡◌, ◌∙◌, sym, subst, ap, true}
+use Rattle.tq_store.specs.declared.copies.FileCopy.{FileCopy}
+use Rattle.tq_txn_states.specs.Open.{is_member, read_copy}
+use Rattle.tq_txn_states.proofs.GoodGrants.{good_read_of}
+use Rattle.tq_txn_states.proofs.open.Open.read_granted.Goals as goal
+
+pub take-requires : goal.take-requires
+take-requires c =
+    let old = c.args.self.now in
+    let read = c.in_ok-given.given in
+    let grants = c.share_grants.ensures in
+    let copy : read.copy ≡ read_copy c.share_grants.result = c.in_ok-given.ensures.copy ∙ ap read_copy (c.as_slice.ensures.value ∙ sym grants) in
+    let kept = c.in_ok-given.ensures.kept ∙ ap (λ gs. (read_copy gs).content) (c.as_slice.ensures.value ∙ sym grants) in
+    let member = subst (λ gs. is_member old.levels gs ≡ true) (sym grants) c.requires.member in
+    good_read_of old c.args.file.now read.kept c.share_grants.result read.copy.version (ap (λ (f : FileCopy). f.version) copy) kept member c.requires.fresh

@@ -1,0 +1,20 @@
+use Rattle.std.proofs.Common.{◌==◌, false, Option, refl, sym, ap}
+use Rattle.std.specs.Option.{option_map_or}
+use Rattle.std.proofs.lemmas.Bool.{ltb-true, ltb-false}
+use Rattle.std.proofs.lemmas.Option.{slice_get_read, slice_get_past}
+use Rattle.tq_evidence.specs.declared.grant.Grant.{Grant}
+use Rattle.tq_txn_states.proofs.votes.is_granter_at.Goals as goal
+
+pub returns-in-Some-clause-value : goal.returns-in-Some-clause-value
+returns-in-Some-clause-value c =
+    let found = c.in-Some.ensures.lookup in
+    let grants = c.args.grants.now in
+    let at = slice_get_read grants _ c.args.place c.in-Some.grant.now refl (ltb-true _ _ (sym found.0)) found.1 in
+    sym (ap (λ (o : Option Grant). option_map_or (λ (grant : Grant). grant.server == c.args.server) o false) at)
+
+pub returns-in-Some-clause-within : goal.returns-in-Some-clause-within
+returns-in-Some-clause-within c = λ is. ltb-true _ _ (sym c.in-Some.ensures.lookup.0)
+
+pub returns-in-None-clause-value : goal.returns-in-None-clause-value
+returns-in-None-clause-value c =
+    sym (ap (λ (o : Option Grant). option_map_or (λ (grant : Grant). grant.server == c.args.server) o false) (slice_get_past c.args.grants.now c.args.place (ltb-false _ _ (sym c.in-None.ensures.lookup.0))))
