@@ -5,7 +5,6 @@ use Rattle.tq_coterie.specs.Coterie.{numbers_of}
 use Rattle.tq_desk.specs.declared.ask.DeskAsk.{DeskAsk}
 use Rattle.tq_txn.specs.declared.asker.Exchange.{Exchange}
 use Rattle.tq_txn.specs.declared.fault.LineFault.{LineFault}
-use Rattle.tq_txn.specs.declared.fault.LineFault.TheVariants as faults
 use Rattle.tq_txn_states.specs.declared.fault.TxnFault.{TxnFault}
 use Rattle.tq_txn_states.specs.declared.fault.TxnFault.TheVariants as txn_faults
 use Rattle.tq_txn_states.specs.declared.told.DeskTold.{DeskTold}

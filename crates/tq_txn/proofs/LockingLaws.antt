@@ -1,5 +1,5 @@
 -- Locks at servers one after another.
-use Rattle.std.proofs.Common.{◌≡◌, ◌∙◌, ◌++◌, ℕ, [], ◌∷◌, List, Option, None, Some, Result, Ok, Err, refl, sym, ap, subst, append-nil}
+use Rattle.std.proofs.Common.{◌≡◌, ◌∙◌, ◌++◌, ℕ, [], ◌∷◌, List, None, Some, Result, Ok, Err, refl, sym, ap, subst, append-nil}
 use Rattle.std.specs.List.{Contains}
 use Rattle.std.specs.Prelude.{OnOk}
 use Rattle.tq_coterie.specs.Coterie.{numbers_of}

@@ -1,5 +1,5 @@
 -- A value put at its place, and one changed in place.
-use Rattle.std.proofs.Common.{◌≡◌, ℕ, ◌+◌, ◌<◌, ◌≤◌, suc, Bool, true, false, not, ◌||◌, ◌&&◌, cond, List, [], ◌∷◌, ◌++◌, Option, Some, None, IsSome, Result, Ok, Err, IsOk, OnOk, length, set, get_or, ltb, refl, sym, ap, ◌∙◌, arith, inl, inr}
+use Rattle.std.proofs.Common.{◌≡◌, ℕ, ◌+◌, ◌<◌, ◌≤◌, suc, Bool, true, false, not, ◌||◌, ◌&&◌, cond, List, [], ◌∷◌, ◌++◌, Option, Some, None, IsSome, length, set, get_or, ltb, refl, sym, ap, ◌∙◌, arith, inl, inr}
 use Rattle.std.specs.List.{list_all, list_any, insert, prefix_len, position, find}
 use Rattle.std.specs.Option.{unwrap_or}
 use Rattle.std.proofs.Math.Bool.{or_assoc, or_comm}
@@ -128,8 +128,3 @@ module _ {X : Type 0} (test : X → Bool) (change : X → X) where
   found-placed xs some none =
       let at : Some (prefix_len (λ y. not (test y)) xs) ≡ no_place = sym (rw (lt-ltb (prefix_len (λ y. not (test y)) xs) (length xs) (passed xs some)) refl) ∙ none in
       cc
-
--- a call that cannot fail did what it does where it succeeds
-pub on_success : {T E P : Type 0} (result : Result T E) → IsOk result → OnOk result P → P
-on_success (Ok value) is after = after
-on_success (Err fault) is after = absurd (false≢true is)

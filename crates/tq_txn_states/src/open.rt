@@ -198,11 +198,7 @@ impl Open {
 
     /// Reads a file by the grants of a quorum: the first copy of the greatest version granted. Out of memory leaves the
     /// transaction as it was.
-    pub fn read_granted(
-        &mut self,
-        file: &FileName,
-        grants: Vec<Grant>,
-    ) -> Result<FileCopy, Memory>
+    pub fn read_granted(&mut self, file: &FileName, grants: Vec<Grant>) -> Result<FileCopy, Memory>
         requires fresh { spec.is_used self.old.ops file.now ≡ false }
         requires member { spec.is_member self.old.levels grants.items ≡ true }
         ensures value { IfOk result (λ copy. copy ≡ spec.read_copy grants.items) }

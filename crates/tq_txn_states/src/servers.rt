@@ -54,7 +54,11 @@ impl Servers {
     pub(crate) fn contains(&self, number: u64) -> bool
         ensures { result ≡ has self.now.servers number }
     {
-        has_number(self.ids.as_slice(), number)
+        let ids = self.ids.as_slice();
+        if is_above(ids, number) {
+            return false;
+        }
+        has_number(ids, number)
     }
 
     /// Makes room for as many servers more.

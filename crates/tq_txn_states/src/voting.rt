@@ -12,8 +12,8 @@ use crate::ended::verdict_of;
 use crate::open::copy_of;
 use crate::told::told_again;
 use crate::votes::{
-    Cast, are_writes_at, cast_in, has_vote, has_votes, is_ask_at, lost_file,
-    place_of_server, put_vote, writes_all_at, writes_at,
+    Cast, are_writes_at, cast_in, has_vote, has_votes, is_ask_at, lost_file, place_of_server,
+    put_vote, writes_all_at, writes_at,
 };
 use crate::{DeskTold, Ended, NodeTold, Open, Ready, TxnFault};
 use std::alloc::Global;

@@ -1,14 +1,12 @@
 use Rattle.tq_txn_states.specs.Cited.{VotesOnly}
 use Rattle.tq_txn.specs.Told.{answers_in}
 use Rattle.tq_txn.specs.Dialogue.{desk_exchange}
-use Rattle.std.proofs.Common.{rules, ℕ, Ok, Err, refl}
+use Rattle.std.proofs.Common.{rules, Ok, Err}
 use Rattle.tq_txn.proofs.KnownLaws.{knows_grow, knows_answered, cites_ask}
 use Rattle.tq_txn.specs.declared.txn.Txn.TheVariants as states
 use Rattle.tq_txn.specs.States.{levels_of, IsGathered}
 use Rattle.tq_txn.specs.Told.{EndsAsTold, EndsWhereTold, IsAnswered, is_ended}
 use Rattle.tq_txn.proofs.LineLaws.{told_desk}
-use Rattle.tq_txn.specs.declared.fault.LineFault.TheVariants.{Memory}
-use Rattle.tq_txn.specs.Commits.{decide_line}
 use Rattle.tq_txn.proofs.CommitLaws.{decide_ready, ready_on}
 use Rattle.tq_txn.proofs.EndLaws.{resolved_answered, resolved_still, resolved_levels, resolved_ends, ends_nothing, ends_refused, ends_answered}
 use Rattle.tq_txn_states.specs.Voting.{VotingView}

@@ -1,12 +1,11 @@
 use Rattle.std.proofs.lemmas.List.Elements.{All-nil}
 use Rattle.std.specs.Global.{Vec}
 use Rattle.std.specs.List.{Contains, list_all}
-use Rattle.std.proofs.Common.{◌≡◌, ◌==◌, ◌∙◌, ◌++◌, ℕ, List, [], true, refl, sym, ap, subst, Some, Result, Ok, Err, rules}
+use Rattle.std.proofs.Common.{◌≡◌, ◌==◌, ◌∙◌, ◌++◌, ℕ, [], true, refl, sym, ap, subst, Some, Result, Ok, Err, rules}
 use Rattle.tq_coterie.specs.Coterie.{numbers_of}
 use Rattle.tq_evidence.specs.declared.grant.Grant.{Grant}
 use Rattle.tq_evidence.specs.Evidence.{granters}
 use Rattle.tq_txn_states.specs.Cited.{answers_of}
-use Rattle.tq_txn_states.specs.declared.told.NodeTold.{NodeTold}
 use Rattle.tq_txn_states.proofs.Tested.{of_tree}
 use Rattle.tq_txn.specs.declared.fault.LineFault.{LineFault}
 use Rattle.tq_txn.specs.declared.fault.LineFault.TheVariants.{Memory}

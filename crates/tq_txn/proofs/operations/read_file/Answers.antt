@@ -1,7 +1,6 @@
 use Rattle.std.proofs.Common.{sym, ap, ◌∙◌}
 use Rattle.std.specs.Option.{option_copied}
 use Rattle.tq_txn.specs.Dialogue.{ended_by}
-use Rattle.tq_locks.specs.declared.mode.Mode.TheVariants.{Shared}
 use Rattle.tq_txn.proofs.GrantLaws.{unused}
 use Rattle.tq_txn.proofs.LineLaws.{first_of_reads}
 use Rattle.std.proofs.Common.{rules}

@@ -1,5 +1,5 @@
-use Rattle.std.proofs.Common.{◌==◌, ◌≡◌, ◌∙◌, false, true, Some, List, slice_get, refl, sym, ap, subst}
-use Rattle.std.specs.List.{list_all, list_any}
+use Rattle.std.proofs.Common.{◌≡◌, ◌∙◌, true, Some, List, slice_get, refl, sym, ap, subst}
+use Rattle.std.specs.List.{list_all}
 use Rattle.std.proofs.lemmas.Option.{slice_get_read}
 use Rattle.tq_evidence.specs.declared.grant.Grant.{Grant}
 use Rattle.tq_evidence.specs.Evidence.{granters, rises}
