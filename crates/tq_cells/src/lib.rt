@@ -17,4 +17,4 @@ pub use gate::{Gate, OpenGate};
 pub use pass::Pass;
 pub use receipt::Receipt;
 pub use told::{Twice, Untaken};
-pub use tq_part::Fault as CallFault;
+pub use tq_part::{Answers, Fault as CallFault};

@@ -1,11 +1,5 @@
 mod Leading
 mod Recording
 mod Answered
-mod Replies
-mod EndsIn
-mod EndsWell
-mod Fits
-mod Says
 mod Operating
 mod ShellLines
-mod Sayings

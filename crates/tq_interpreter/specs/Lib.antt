@@ -4,10 +4,8 @@ pub mod Progress
 pub mod Known
 pub mod TxnAsked
 pub mod States
-pub mod PossibleTxn
 pub mod Operators
 pub mod Asked
 pub mod Answer
-pub mod Possible
 pub use Rattle.tq_live.specs.Live
 pub use Rattle.tq_live.specs.View

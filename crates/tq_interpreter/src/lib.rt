@@ -4,8 +4,7 @@
 //! Files: `shell.rt` any line; `answering.rt` a line of a transaction: `operations.rt`, `server_lines.rt`, `decisions.rt`,
 //! `endings.rt`, over `txn_slot.rt` and `states.rt`; `operators.rt` refresh and board; `recorder.rt`, `told.rt`,
 //! `history.rt` the service asked, and what contracts see of its answers.
-//! Definitions: `specs/Asked` and `TxnAsked` (what lines ask), `Operators`, `Answer`, `Possible`; `Recorded` is the code's
-//! own word.
+//! Definitions: `specs/Asked` and `TxnAsked` (what lines ask), `Operators`, `Answer`; `Recorded` is the code's own word.
 #![tactic(auto)]
 
 mod answering;

@@ -51,7 +51,6 @@ impl Shell {
     ghost use Rattle.std.specs.Prelude.{◌≡◌, ◌++◌, IfOk, OnOk, OnErr};
     ghost use Rattle.tq_world.specs.World.{item_at};
     ghost use Rattle.tq_interpreter.specs.Answer.{opening, answer, given_by, IsWhole};
-    ghost use Rattle.tq_interpreter.specs.Possible.{IsSaidOf};
     ghost use Rattle.tq_text.specs.Print.{Extends};
 
     /// Every server at cost 1 and up, nothing stored, and no transaction.
@@ -75,12 +74,10 @@ impl Shell {
         self.recorder.service()
     }
 
-    /// Answers one line, and puts the answer behind the text: of all that the definitions have texts for, no more than what
-    /// can come.
+    /// Answers one line, and puts the answer behind the text.
     pub fn answer(&mut self, alloc: Global, line: Line, text: &mut Vec<u8>) -> Result<(), Memory>
         ensures text { OnOk result (Appends text.old text.new (answer self.old line).text) }
         ensures after { OnOk result (self.new ≡ (answer self.old line).after) }
-        ensures possible { OnOk result (IsSaidOf line text.old.items text.new.items) }
         ensures begun { OnErr result (line ≡ Line.Begin → IsWhole self.old line self.new) }
         ensures kept { OnErr result (Extends text.old.items text.new.items) }
     {
