@@ -279,9 +279,9 @@ def listed():
     """The document with the twelve drills in its table, as they are."""
     with open(f"{ROOT}/docs/OPERATORS.md", encoding="utf-8") as it:
         text = it.read()
-    before, head, _ = text.partition("| Drill | Goal | Fewest lines |\n|---|---|---|\n")
+    before, head, behind = text.partition("| Drill | Goal | Fewest lines |\n|---|---|---|\n")
     rows = [f"| `{one.name}` | {one.goal} | {len(one.fewest)} |\n" for one in map(drill, range(1, len(DRILLS) + 1))]
-    return "docs/OPERATORS.md", before + head + "".join(rows)
+    return "docs/OPERATORS.md", before + head + "".join(rows) + re.sub(r"\A(\|.*\n)*", "", behind)
 
 
 def faults(tq, folder):
