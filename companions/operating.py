@@ -242,10 +242,10 @@ def steps(tq, folder):
         yield f"--step shows {len(frames)} frames for {len(places)} places, of which {len(shown)} differ"
 
 
-def drilled(tq, name, lines, levels):
-    """The boards behind each of these lines, which come behind others."""
-    data = "".join(f"{it}\n" for it in lines) + "".join(f"{it}\nboard\n" for it in name)
-    printed = subprocess.run([tq, "shell", "--levels", str(levels)], input=data.encode(), stdout=subprocess.PIPE, check=False).stdout.decode().split("\n")
+def boards(tq, one, lines):
+    """The boards behind each of these lines, which come behind those of the drill."""
+    data = "".join(f"{it}\n" for it in one.lines) + "".join(f"{it}\nboard\n" for it in lines)
+    printed = subprocess.run([tq, "shell", "--levels", str(one.levels)], input=data.encode(), stdout=subprocess.PIPE, check=False).stdout.decode().split("\n")
     starts = [at for at, row in enumerate(printed) if row.startswith("board levels ")]
     return [Board(printed[at : printed.index("end", at) + 1]) for at in starts]
 
@@ -258,10 +258,10 @@ def drills(tq):
         tried = [f"{word} {server}" for server in servers for word in ("up", "down")] + ["refresh"]
         tried += [f"{word} {txn}" for txn in txns for word in ("commit", "abort", "resolve", "decide")]
         tried += [f"{word} {txn} {server}" for server in servers for txn in txns for word in ("apply", "prepare")]
-        if [one.is_reached(it) for it in drilled(tq, one.fewest, one.lines, one.levels)] != [False] * (len(one.fewest) - 1) + [True]:
+        if [one.is_reached(it) for it in boards(tq, one, one.fewest)] != [False] * (len(one.fewest) - 1) + [True]:
             yield f"{one.fewest} are not how drill {seed} is done"
         for lines in itertools.product(tried, repeat=len(one.fewest) - 1):
-            if any(map(one.is_reached, drilled(tq, lines or ["choose"], one.lines, one.levels))):
+            if any(map(one.is_reached, boards(tq, one, lines or ["choose"]))):
                 yield f"drill {seed} is done by {lines}"
 
 
@@ -279,9 +279,9 @@ def listed():
     """The document with the twelve drills in its table, as they are."""
     with open(f"{ROOT}/docs/OPERATORS.md", encoding="utf-8") as it:
         text = it.read()
-    before, head, _ = text.partition("| Drill | Goal | Fewest lines |\n|---|---|---|\n")
+    before, head, behind = text.partition("| Drill | Goal | Fewest lines |\n|---|---|---|\n")
     rows = [f"| `{one.name}` | {one.goal} | {len(one.fewest)} |\n" for one in map(drill, range(1, len(DRILLS) + 1))]
-    return "docs/OPERATORS.md", before + head + "".join(rows)
+    return "docs/OPERATORS.md", before + head + "".join(rows) + re.sub(r"\A(\|.*\n)*", "", behind)
 
 
 def faults(tq, folder):

@@ -58,15 +58,19 @@ class Shell:
     def rest(self):
         """All that the service still prints, up to its end, which comes with the end of its lines."""
         self.has_ended = True
-        self.child.stdin.close()
+        self.close()
         return self.child.stdout.read().decode("ascii", "replace").splitlines()
 
-    def end(self):
-        """The status with which the service ends."""
+    def close(self):
+        """Ends the lines of the service."""
         try:
             self.child.stdin.close()
         except BrokenPipeError:
             pass
+
+    def end(self):
+        """The status with which the service ends."""
+        self.close()
         self.child.stdout.close()
         return self.child.wait()
 
