@@ -49,16 +49,16 @@ JOURNALS = "examples/journals/stuck.json"
 def endings():
     given = {"picture": [JOURNALS], "why": [JOURNALS], "board": [], "availability": ["--levels", "2"], "journals": ["--levels", "1"], "shrink": [JOURNALS]}
     for name, words in given.items():
-        for place, lines in (("/dev/full", 1), ("pipe", 0)):
+        for place, lines, asked in (("/dev/full", 1, words), ("pipe", 0, words), ("/dev/full", 1, ["-h"])):
             near, far = os.pipe()
             os.close(near)
             with os.fdopen(far, "wb") if place == "pipe" else open(place, "wb") as full:
-                done = subprocess.run([f"tools/{name}", *words], cwd=ROOT, input=BOARD.encode(), stdout=full, stderr=subprocess.PIPE, check=False)
+                done = subprocess.run([f"tools/{name}", *asked], cwd=ROOT, input=BOARD.encode(), stdout=full, stderr=subprocess.PIPE, check=False)
             if done.returncode != 1 or done.stderr.count(b"\n") != lines or b"Traceback" in done.stderr:
-                yield f"tools/{name} at {place}: status {done.returncode}, {done.stderr.decode()}"
+                yield f"tools/{name} {asked} at {place}: status {done.returncode}, {done.stderr.decode()}"
         if name == "availability":
             continue
-        done = ran([f"tools/{name}", *words[:2], "no such file"] if name == "journals" else [f"tools/{name}", "no such file"])
+        done = ran([f"tools/{name}", *(words if name == "journals" else []), "no such file"])
         if done.returncode != 1 or done.stdout or done.stderr.count(b"\n") != 1:
             yield f"tools/{name} without its file: {done}"
 

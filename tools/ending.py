@@ -2,14 +2,22 @@
 
     if __name__ == "__main__":
         ending.run("picture", main)"""
+import argparse
 import os
 import sys
+
+
+class Words(argparse.ArgumentParser):
+    """The words of a tool. Its own way to print help passes over an output that is full."""
+
+    def print_help(self, file=None):
+        print(self.format_help(), end="", file=file)
 
 
 def run(name, main):
     """Ends with the status that `main` returns. Ctrl-C ends with 130."""
     try:
-        status = main()
+        status = status_of(main)
         sys.stdout.flush()
     except BrokenPipeError:
         status = 1
@@ -23,6 +31,14 @@ def run(name, main):
     # What could not be written is not tried again at the end.
     os.dup2(os.open(os.devnull, os.O_WRONLY), 1)
     sys.exit(status)
+
+
+def status_of(main):
+    """What `main` returns, or ends with where its words are refused or it prints its help."""
+    try:
+        return main()
+    except SystemExit as end:
+        return end.code
 
 
 def read(name, path):
