@@ -136,8 +136,7 @@ impl Service {
 
     /// The journals are those of a run: this does nothing, and says what follows.
     fn show_run(&self)
-        ensures committed_reads { HasCommittedReads self.now }
-        ensures headline { Headline self.now (tables_of self.now) }
+        ensures { HasCommittedReads self.now }
     {
         let _ = &self.tabled.limits;
     }
@@ -173,7 +172,6 @@ impl Service {
             ≡ spec.world_after self.old (Step.Node server.number ask)) }
         ensures err { OnErr result (self.new ≡ self.old) }
         ensures committed_reads { HasCommittedReads self.new }
-        ensures headline { Headline self.new (tables_of self.new) }
     {
         let number = server.number();
         let place = (number - 1) as usize;
@@ -201,7 +199,6 @@ impl Service {
         ensures after { OnOk result (self.new ≡ spec.world_after self.old (Step.Desk ask)) }
         ensures err { OnErr result (self.new ≡ self.old) }
         ensures committed_reads { HasCommittedReads self.new }
-        ensures headline { Headline self.new (tables_of self.new) }
     {
         let unfounded = unfounded_in_desk_ask(self, &ask);
         if let Some(fault) = self.refusal(Part::Desk, self.desk_journal().len(), unfounded) {
@@ -222,7 +219,6 @@ impl Service {
             OffersBest self.old (Step.View ask) (answer_of Reply.View told)) }
         ensures err { OnErr result (self.new ≡ self.old) }
         ensures committed_reads { HasCommittedReads self.new }
-        ensures headline { Headline self.new (tables_of self.new) }
     {
         if let Some(fault) = self.refusal(Part::View, self.tabled.view.len(), None) {
             self.show_run();
@@ -241,7 +237,6 @@ impl Service {
         ensures offered { IfOk result (λ answered. OffersBest self.old step answered) }
         ensures err { OnErr result (self.new ≡ self.old) }
         ensures committed_reads { HasCommittedReads self.new }
-        ensures headline { Headline self.new (tables_of self.new) }
     {
         let _ = &self.tabled.limits;
         match step {
@@ -287,7 +282,6 @@ impl Service {
         ensures err { OnErr result (self.new ≡ self.old) }
         ensures offered { IfOk result (λ results. AreOffered self.old steps.items results.items) }
         ensures committed_reads { HasCommittedReads self.new }
-        ensures headline { Headline self.new (tables_of self.new) }
     {
         let _ = &self.tabled.limits;
         let results = self.take(alloc, steps)?;

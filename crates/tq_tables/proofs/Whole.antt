@@ -1,9 +1,8 @@
 -- The tables as a whole.
 use Rattle.std.specs.Prelude.{reverse}
-use Rattle.std.proofs.Common.{◌≡◌, ◌+◌, ◌-◌, ◌^◌, ◌<◌, ℕ, zero, suc, cond, slice_index_or, ◌&&◌, List, [], ◌∷◌, length, map, refl, ap, sym, subst, ◌∙◌, arith, nat_le}
+use Rattle.std.proofs.Common.{◌≡◌, ◌+◌, ◌-◌, ◌^◌, ◌<◌, ℕ, zero, suc, cond, slice_index_or, ◌&&◌, List, length, map, refl, ap, sym, subst, ◌∙◌, arith, nat_le}
 use mathlib.Core.List.{map-map}
 use Rattle.std.specs.FinMap as fin
-use Rattle.std.specs.List.{All}
 use Rattle.std.proofs.lemmas.List.{length-map, map-id}
 use Rattle.std.proofs.lemmas.List.Elements.{All-map}
 use Rattle.std.proofs.lemmas.Nat.{pow_pos}

@@ -57,13 +57,13 @@ impl FileRow {
     {
         let mut row = self.copy()?;
         row.version += 1;
-        row.stand_each(&self.current, nodes);
+        row.set_currency_of_each(&self.current, nodes);
         Ok(row)
     }
 
-    /// Each of these servers stands where its copy of the file says. It takes no memory.
+    /// Each of these servers is current or stale as its copy of the file says. It takes no memory.
     #[inline(always)]
-    pub(crate) fn stand_each(&mut self, servers: &ServerSet, nodes: &[Node])
+    pub(crate) fn set_currency_of_each(&mut self, servers: &ServerSet, nodes: &[Node])
         requires of_tree { AreOfTree self.old.current.levels 1 nodes.now }
         requires levels { self.old.stale.levels ≡ self.old.current.levels }
         requires within { All (λ number. number ≤ length nodes.now) servers.now.numbers }
@@ -73,13 +73,13 @@ impl FileRow {
     {
         for server in servers.iter() {
             let place = (server.number() - 1) as usize;
-            self.stand(&nodes[place], 0);
+            self.set_currency(&nodes[place], 0);
         }
     }
 
-    /// The server, whose copy of the file is at least of that version, stands among the current ones where its copy is of
-    /// the row's version or a later one, and else among the stale ones. It takes no memory.
-    pub(crate) fn stand(&mut self, node: &Node, least: u64)
+    /// The server, whose copy of the file is at least of that version, is current where its copy is of the row's version or
+    /// a later one, and else stale. It takes no memory.
+    pub(crate) fn set_currency(&mut self, node: &Node, least: u64)
         requires least { least ≤ (copy_of node.now.state.records.copies self.old.file).version }
         requires current { node.now.levels ≡ self.old.current.levels }
         requires stale { node.now.levels ≡ self.old.stale.levels }

@@ -124,7 +124,7 @@ fn first_row(
         current,
         stale,
     };
-    row.stand_each(&holders.early, nodes);
+    row.set_currency_of_each(&holders.early, nodes);
     Ok(row)
 }
 

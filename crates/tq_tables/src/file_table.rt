@@ -139,10 +139,10 @@ impl FileTable {
         }
     }
 
-    /// In the row of the file, if it has one, the server, whose copy is at least of that version, stands where its copy
-    /// says. Answers whether it has one. It takes no memory.
+    /// In the row of the file, if it has one, the server, whose copy is at least of that version, is current or stale as
+    /// its copy says. The row is noted as the one that was found last. Answers whether there is one. It takes no memory.
     #[inline(never)]
-    fn stand(&mut self, node: &Node, file: &FileName, least: u64) -> bool
+    fn set_currency(&mut self, node: &Node, file: &FileName, least: u64) -> bool
         requires levels { node.now.levels ≡ self.old.levels }
         requires least { least ≤ (copy_of node.now.state.records.copies file.now).version }
         ensures levels { self.new.levels ≡ self.old.levels }
@@ -152,13 +152,14 @@ impl FileTable {
         let Some(place) = self.rows.get_index_of(file) else {
             return false;
         };
-        self.stand_there(place, node, file, least);
+        self.last = place;
+        self.set_currency_at(place, node, file, least);
         true
     }
 
     /// The same where the row of the file is the one at that place.
     #[inline(always)]
-    fn stand_there(&mut self, place: usize, node: &Node, file: &FileName, least: u64)
+    fn set_currency_at(&mut self, place: usize, node: &Node, file: &FileName, least: u64)
         requires there { HasRowAt (by_file self.old.rows) place file.now }
         requires levels { node.now.levels ≡ self.old.levels }
         requires least { least ≤ (copy_of node.now.state.records.copies file.now).version }
@@ -167,12 +168,12 @@ impl FileTable {
         ensures found { has_row self.old.rows file.now ≡ true }
     {
         let _levels = self.levels;
-        stand_at(&mut self.rows, place, node, least);
+        set_currency_in(&mut self.rows, place, node, least);
     }
 
     /// The same for a file that is likely to be that of the row that was found last, as where a refresh goes from server to
     /// server.
-    fn stand_again(&mut self, node: &Node, file: &FileName, least: u64) -> bool
+    fn set_currency_near_last(&mut self, node: &Node, file: &FileName, least: u64) -> bool
         requires levels { node.now.levels ≡ self.old.levels }
         requires least { least ≤ (copy_of node.now.state.records.copies file.now).version }
         ensures levels { self.new.levels ≡ self.old.levels }
@@ -181,32 +182,21 @@ impl FileTable {
     {
         let last = self.last;
         if has_row_at(&self.rows, last, file) {
-            self.stand_there(last, node, file, least);
+            self.set_currency_at(last, node, file, least);
             return true;
         }
-        self.stand_elsewhere(node, file, least)
+        self.set_currency(node, file, least)
     }
 
-    /// The same for a file whose row stands at another place, which is noted.
-    #[inline(never)]
-    fn stand_elsewhere(&mut self, node: &Node, file: &FileName, least: u64) -> bool
-        requires levels { node.now.levels ≡ self.old.levels }
-        requires least { least ≤ (copy_of node.now.state.records.copies file.now).version }
-        ensures levels { self.new.levels ≡ self.old.levels }
-        ensures rows { self.new.rows ≡ map (spec.stood_at node.now file.now) self.old.rows }
-        ensures found { result ≡ has_row self.old.rows file.now }
-    {
-        let _levels = self.levels;
-        if let Some(place) = self.rows.get_index_of(file) {
-            self.last = place;
-        }
-        self.stand(node, file, least)
-    }
-
-    /// In the rows of the files that the ask raised the server stands where its copies say. Answers true only where each
-    /// of these files has a row. It takes no memory.
+    /// In the rows of the files that the ask raised the server is current or stale as its copies say. Answers true only
+    /// where each of these files has a row. It takes no memory.
     #[inline(always)]
-    pub(crate) fn stand_all(&mut self, node: &Node, ask: &NodeAsk, raised: &Raised) -> bool
+    pub(crate) fn set_currency_of_raised(
+        &mut self,
+        node: &Node,
+        ask: &NodeAsk,
+        raised: &Raised,
+    ) -> bool
         requires levels { node.now.levels ≡ self.old.levels }
         requires reached { AreReached ask.now raised.now node.now.state.records.copies }
         ensures levels { self.new.levels ≡ self.old.levels }
@@ -215,14 +205,14 @@ impl FileTable {
         ensures found { OnTrue result (HaveRows self.old.rows (raised_files ask.now raised.now)) }
     {
         match raised {
-            Raised::Written(writes) => self.stand_written(node, writes.as_slice()),
-            Raised::Asked => self.stand_offered(node, ask),
+            Raised::Written(writes) => self.set_currency_of_written(node, writes.as_slice()),
+            Raised::Asked => self.set_currency_of_offered(node, ask),
         }
     }
 
     /// The same for the file that a refresh offers.
     #[inline(never)]
-    fn stand_offered(&mut self, node: &Node, ask: &NodeAsk) -> bool
+    fn set_currency_of_offered(&mut self, node: &Node, ask: &NodeAsk) -> bool
         requires levels { node.now.levels ≡ self.old.levels }
         requires reached { HasOffered ask.now node.now.state.records.copies }
         ensures levels { self.new.levels ≡ self.old.levels }
@@ -232,7 +222,9 @@ impl FileTable {
         let _levels = self.levels;
         match ask {
             NodeAsk::Work(work) => match work.get() {
-                WorkAsk::Refresh { file, version, .. } => self.stand_again(node, file, *version),
+                WorkAsk::Refresh { file, version, .. } => self.set_currency_near_last(
+                    node, file, *version,
+                ),
                 WorkAsk::Lock { .. } => true,
                 WorkAsk::Prepare { .. } => true,
                 WorkAsk::Decide { .. } => true,
@@ -246,7 +238,7 @@ impl FileTable {
     }
 
     /// The same for the files of the writes.
-    fn stand_written(&mut self, node: &Node, writes: &[Write]) -> bool
+    fn set_currency_of_written(&mut self, node: &Node, writes: &[Write]) -> bool
         requires levels { node.now.levels ≡ self.old.levels }
         requires reached { spec.HoldsWritten node.now writes.now }
         ensures levels { self.new.levels ≡ self.old.levels }
@@ -255,7 +247,7 @@ impl FileTable {
     {
         let mut found = true;
         for write in writes {
-            if !self.stand(node, &write.file, write.version) {
+            if !self.set_currency(node, &write.file, write.version) {
                 found = false;
             }
         }
@@ -274,14 +266,14 @@ fn has_row_at(rows: &IndexMap<FileName, FileRow>, place: usize, file: &FileName)
     }
 }
 
-/// In the row at the place, if there is one, the server stands where its copy says. It takes no memory.
+/// In the row at the place, if there is one, the server is current or stale as its copy says. It takes no memory.
 #[inline(always)]
-fn stand_at(rows: &mut IndexMap<FileName, FileRow>, place: usize, node: &Node, least: u64)
+fn set_currency_in(rows: &mut IndexMap<FileName, FileRow>, place: usize, node: &Node, least: u64)
     requires least { spec.ReachesRowAt rows.old.entries place node.now least }
     requires levels { spec.FitsRowAt rows.old.entries place node.now }
     ensures { spec.StandsAt rows.old.entries rows.new.entries place node.now }
 {
     if let Some(row) = rows.get_index_mut(place) {
-        row.stand(node, least);
+        row.set_currency(node, least);
     }
 }

@@ -1,4 +1,5 @@
 ghost use Rattle.std.specs.Prelude.{◌≡◌, ◌+◌, ◌^◌, true, None, length, IfOk, OnOk, OnErr};
+ghost use Rattle.std.specs.Bool.{OnFalse};
 ghost use Rattle.std.specs.List.{All};
 ghost use Rattle.tq_live.specs.Live.{Live};
 ghost use Rattle.tq_live.specs.View.{view_after};
@@ -159,7 +160,7 @@ impl LiveTables {
             raised,
         } = parts.ask_node(alloc, server, number, ask)?;
         let node = parts.node(server);
-        let found = files.stand_all(node, ask, &raised);
+        let found = files.set_currency_of_raised(node, ask, &raised);
         holders.hold(node.server(), found);
         Ok(Replies { entered, told })
     }
@@ -327,6 +328,7 @@ impl LiveTables {
         requires server { server.levels ≡ self.now.levels }
         requires row { row.old.servers.levels ≡ self.now.levels }
         ensures least { row_if result row.new ≡ least_in self.now.quorums purpose server.number }
+        ensures stays { OnFalse result (row.new ≡ row.old) }
         ensures tree { row.new.servers.levels ≡ self.now.levels }
     {
         let _within = server.number();

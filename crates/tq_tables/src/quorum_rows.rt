@@ -1,4 +1,5 @@
 ghost use Rattle.std.specs.Prelude.{◌≡◌, IfOk};
+ghost use Rattle.std.specs.Bool.{OnFalse};
 ghost use Rattle.tq_tables.specs.Rows as spec;
 
 use crate::QuorumRow;
@@ -60,6 +61,7 @@ pub(crate) fn least_into(
     requires row { row.old.servers.levels ≡ tree.now.levels }
     ensures least { spec.row_if result row.new
         ≡ spec.least_row tree.now purpose server.number }
+    ensures stays { OnFalse result (row.new ≡ row.old) }
     ensures tree { row.new.servers.levels ≡ tree.now.levels }
 {
     tree.best_into(purpose, server, row)

@@ -1,4 +1,5 @@
 ghost use Rattle.std.specs.Prelude.{◌≡◌, ◌+◌, ◌^◌, ◌↔◌, Some, length, IsTrue, IfOk, IsOk, OnOk, OnErr};
+ghost use Rattle.std.specs.Bool.{OnFalse};
 ghost use Rattle.std.specs.List.{All};
 ghost use Rattle.tq_tables.specs.Asked.{FollowsDesk, FollowsNode, FollowsView, MayAskDesk, MayAskNode};
 ghost use Rattle.tq_tables.specs.Asked.{desk_replies, node_replies, view_replies};
@@ -239,6 +240,7 @@ impl Tables {
         requires server { server.levels ≡ self.now.levels }
         requires row { row.old.servers.levels ≡ self.now.levels }
         ensures least { row_if result row.new ≡ least_in self.now.quorums purpose server.number }
+        ensures stays { OnFalse result (row.new ≡ row.old) }
         ensures tree { row.new.servers.levels ≡ self.now.levels }
     {
         self.followed.least_into(purpose, server, row)

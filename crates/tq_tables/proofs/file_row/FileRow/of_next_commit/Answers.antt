@@ -8,14 +8,14 @@ use Rattle.tq_tables.specs.declared.file_row.FileRow.{FileRow}
 use Rattle.tq_tables.proofs.Settled.{are-within, at_next, next-exact}
 use Rattle.tq_tables.proofs.file_row.FileRow.of_next_commit.Goals as goal
 
-pub stand_each-requires-clause-of_tree : goal.stand_each-requires-clause-of_tree
-stand_each-requires-clause-of_tree c = subst (λ (r : FileRow). AreOfTree r.current.levels 1 c.args.nodes.now) (sym c.in_ok-row.ensures) c.requires.of_tree
+pub set_currency_of_each-requires-clause-of_tree : goal.set_currency_of_each-requires-clause-of_tree
+set_currency_of_each-requires-clause-of_tree c = subst (λ (r : FileRow). AreOfTree r.current.levels 1 c.args.nodes.now) (sym c.in_ok-row.ensures) c.requires.of_tree
 
-pub stand_each-requires-clause-levels : goal.stand_each-requires-clause-levels
-stand_each-requires-clause-levels c = ap (λ (r : FileRow). r.stale.levels) (c.in_ok-row.ensures ∙ c.requires.exact) ∙ sym (ap (λ (r : FileRow). r.current.levels) c.in_ok-row.ensures)
+pub set_currency_of_each-requires-clause-levels : goal.set_currency_of_each-requires-clause-levels
+set_currency_of_each-requires-clause-levels c = ap (λ (r : FileRow). r.stale.levels) (c.in_ok-row.ensures ∙ c.requires.exact) ∙ sym (ap (λ (r : FileRow). r.current.levels) c.in_ok-row.ensures)
 
-pub stand_each-requires-clause-within : goal.stand_each-requires-clause-within
-stand_each-requires-clause-within c =
+pub set_currency_of_each-requires-clause-within : goal.set_currency_of_each-requires-clause-within
+set_currency_of_each-requires-clause-within c =
     let row = c.args.self.now in
     let nodes = c.args.nodes.now in
     subst (λ (r : FileRow). All (λ (number : ℕ). number ≤ length nodes) r.current.numbers) (sym c.requires.exact)
@@ -25,6 +25,6 @@ pub returns : goal.returns
 returns c =
     let row = c.args.self.now in
     let nodes = c.args.nodes.now in
-    c.stand_each.ensures.stands
+    c.set_currency_of_each.ensures.stands
     ∙ (λ i. stood_in nodes (at_next (c.in_ok-row.ensures i)) (servers_of_numbers row.current.levels row.current.numbers))
     ∙ next-exact row.current.levels nodes c.requires.of_tree row c.requires.exact

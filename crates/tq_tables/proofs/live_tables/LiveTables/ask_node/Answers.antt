@@ -44,8 +44,8 @@ node-node-requires c =
     let count = ap (λ (p : PartsView). length p.nodes) after ∙ length-set parts.nodes (c.args.server - 1) (server_after old c.args.number c.args.ask.now) in
     (there.0, omega (arith, there.0, less, count))
 
-pub stand_all-found-requires-clause-levels : goal.stand_all-found-requires-clause-levels
-stand_all-found-requires-clause-levels c =
+pub set_currency_of_raised-found-requires-clause-levels : goal.set_currency_of_raised-found-requires-clause-levels
+set_currency_of_raised-found-requires-clause-levels c =
     let view_is = (λ i. tables_at (c.deref_mut-parts.ensures.value i) (c.deref_mut-files.ensures.value i).rows) ∙ c.self.view_is in
     let same = ap (λ (p : PartsView). p.view.levels) c.deref_mut-parts.ensures.value ∙ c.self.invariant.0 ∙ sym (ap (λ (f : FilesView). f.levels) c.deref_mut-files.ensures.value) in
     let parts = c.deref_mut-parts.result.now in
@@ -53,8 +53,8 @@ stand_all-found-requires-clause-levels c =
     let after = c.in_ok-entered.ensures.after (node_in parts.nodes c.args.server) at in
     c.node-node.ensures.of_tree ∙ ap (λ (p : PartsView). p.view.levels) after ∙ same
 
-pub stand_all-found-requires-clause-reached : goal.stand_all-found-requires-clause-reached
-stand_all-found-requires-clause-reached c =
+pub set_currency_of_raised-found-requires-clause-reached : goal.set_currency_of_raised-found-requires-clause-reached
+set_currency_of_raised-found-requires-clause-reached c =
     let view_is = (λ i. tables_at (c.deref_mut-parts.ensures.value i) (c.deref_mut-files.ensures.value i).rows) ∙ c.self.view_is in
     let parts = c.deref_mut-parts.result.now in
     let rows = c.deref_mut-files.result.now.rows in
@@ -101,11 +101,11 @@ invariant_of-self-2 c =
     let before : AreHolders levels parts.nodes rows holders =
     held-same (ap (λ (f : FilesView). f.levels) c.deref_mut-files.ensures.value) (ap (λ (p : PartsView). p.nodes) c.deref_mut-parts.ensures.value)
     (ap (λ (f : FilesView). f.rows) c.deref_mut-files.ensures.value) c.deref_mut-holders.ensures.value c.self.invariant.1 in
-    let held = held-asked levels parts.nodes rows (server - 1) old node raised of_tree at less refl (c.in_ok-entered.ensures.raised old at) c.stand_all-found.result c.stand_all-found.ensures.found holders before in (
-      ap (λ (p : PartsView). p.view.levels) after ∙ same ∙ sym c.stand_all-found.ensures.levels,
-      held-same c.stand_all-found.ensures.levels (ap (λ (p : PartsView). p.nodes) after)
-          (c.stand_all-found.ensures.rows ∙ ap (λ (n : NodeView). spec.all_stood n rows raised) node_is)
-          (c.hold.ensures ∙ ap (λ (number : ℕ). held_by c.stand_all-found.result number holders) (c.server.ensures.number ∙ ap (λ (n : NodeView). n.server) node_is))
+    let held = held-asked levels parts.nodes rows (server - 1) old node raised of_tree at less refl (c.in_ok-entered.ensures.raised old at) c.set_currency_of_raised-found.result c.set_currency_of_raised-found.ensures.found holders before in (
+      ap (λ (p : PartsView). p.view.levels) after ∙ same ∙ sym c.set_currency_of_raised-found.ensures.levels,
+      held-same c.set_currency_of_raised-found.ensures.levels (ap (λ (p : PartsView). p.nodes) after)
+          (c.set_currency_of_raised-found.ensures.rows ∙ ap (λ (n : NodeView). spec.all_stood n rows raised) node_is)
+          (c.hold.ensures ∙ ap (λ (number : ℕ). held_by c.set_currency_of_raised-found.result number holders) (c.server.ensures.number ∙ ap (λ (n : NodeView). n.server) node_is))
           held,
     )
 
@@ -139,16 +139,16 @@ returns-clause-asked c = λ journals reply legal stand.
     let of_tree = of_tree-at journals.levels journals.servers parts.nodes parts.view.levels (ap (λ (t : TablesView). t.nodes) whole) (ap (λ (t : TablesView). t.view.levels) whole) in
     let stands = rows-stand parts of_tree server there.0 within old node at refl refl (raised_files c.args.ask.now c.in_ok-entered.field-0.raised) (c.in_ok-entered.ensures.raised old at) rows journals
     (rows-at parts rows c.args.self.now view_is journals stand) in
-    let files : c.stand_all-found.new.self.rows ≡ file_rows c.args.self.now.view.levels c.ask_node.new.self.nodes list =
-    c.stand_all-found.ensures.rows
+    let files : c.set_currency_of_raised-found.new.self.rows ≡ file_rows c.args.self.now.view.levels c.ask_node.new.self.nodes list =
+    c.set_currency_of_raised-found.ensures.rows
     ∙ (λ i. spec.all_stood (node_is i) rows (raised_files c.args.ask.now c.in_ok-entered.field-0.raised))
     ∙ stands
     ∙ (λ i. file_rows (view_is i).view.levels (sym after i).nodes list) in
     let at_now = at ∙ ap (λ (t : TablesView). get_or t.nodes (server - 1) old) view_is in
     let next = next-number c.args.self.now server c.args.number old c.requires at_now in
     node-noted journals server c.args.self.now old stand there.0 at_now there.1 e legal c.args.number next
-    _ c.ask_node.new.self.nodes c.stand_all-found.new.self.rows
+    _ c.ask_node.new.self.nodes c.set_currency_of_raised-found.new.self.rows
     (ap (λ (p : PartsView). p.nodes) after ∙ ap (λ (t : TablesView). set t.nodes (server - 1) node) view_is)
     files
-    (with_nodes-at parts c.ask_node.new.self (set parts.nodes (server - 1) node) c.stand_all-found.new.self.rows rows after
-    ∙ ap (λ (t : TablesView). with_nodes t c.ask_node.new.self.nodes c.stand_all-found.new.self.rows) view_is)
+    (with_nodes-at parts c.ask_node.new.self (set parts.nodes (server - 1) node) c.set_currency_of_raised-found.new.self.rows rows after
+    ∙ ap (λ (t : TablesView). with_nodes t c.ask_node.new.self.nodes c.set_currency_of_raised-found.new.self.rows) view_is)

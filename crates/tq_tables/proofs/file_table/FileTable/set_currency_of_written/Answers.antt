@@ -9,8 +9,8 @@ use Rattle.tq_tables.specs.declared.file_row.FileRow.{FileRow}
 use Rattle.tq_tables.proofs.Held.{have-next, names-all_stood}
 use Rattle.tq_tables.proofs.Kept.{all_stood-append}
 use Rattle.tq_tables.proofs.RowLaws.{take-next}
-use Rattle.tq_tables.proofs.file_table.FileTable.stand_written.Goals as goal
-use Rattle.tq_tables.proofs.file_table.FileTable.stand_written.Goals.{then-not-stand, else-not-stand}
+use Rattle.tq_tables.proofs.file_table.FileTable.set_currency_of_written.Goals as goal
+use Rattle.tq_tables.proofs.file_table.FileTable.set_currency_of_written.Goals.{then-not-set_currency, else-not-set_currency}
 
 pub loop-write-preserved : goal.loop-write-preserved
 loop-write-preserved c =
@@ -26,17 +26,17 @@ loop-write-preserved c =
     let P : Bool → Type 0 = λ found. OnTrue found (HaveRows rows (map names (take (i + 1) writes))) in
     let one_more : map names (take (i + 1) writes) ≡ before ++ write.file ∷ [] = ap (map names) (take-next writes i write less is) ∙ map-append names (take i writes) (write ∷ []) in
     record {
-      levels = c.stand.ensures.levels ∙ c.loop-write.invariant.levels;
+      levels = c.set_currency.ensures.levels ∙ c.loop-write.invariant.levels;
       found =
-          elim c.if-not-stand.branch [
-            | then-not-stand w ↦ subst P (sym w.found-is) tt
-            | else-not-stand w ↦
+          elim c.if-not-set_currency.branch [
+            | then-not-set_currency w ↦ subst P (sym w.found-is) tt
+            | else-not-set_currency w ↦
                 let here : has_row rows write.file ≡ true =
-                ap (is_in write.file) (sym (ap spec.names_in c.loop-write.invariant.rows ∙ names-all_stood node before rows)) ∙ sym c.stand.ensures.found ∙ w.if-not-stand.false in
+                ap (is_in write.file) (sym (ap spec.names_in c.loop-write.invariant.rows ∙ names-all_stood node before rows)) ∙ sym c.set_currency.ensures.found ∙ w.if-not-set_currency.false in
                 subst P (sym w.found-is) (have-next rows writes i write less is here c.loop-write.found c.loop-write.invariant.found)
           ];
       rows =
-          c.stand.ensures.rows
+          c.set_currency.ensures.rows
           ∙ ap (λ (all : List FileRow). map (spec.stood_at node write.file) all) c.loop-write.invariant.rows
           ∙ sym (ap (spec.all_stood node rows) one_more ∙ all_stood-append node rows before write.file);
     }

@@ -8,10 +8,10 @@ use Rattle.tq_tables.specs.declared.file_row.FileRow.{FileRow}
 use Rattle.tq_tables.proofs.Kept.{stood-levels}
 use Rattle.tq_tables.proofs.RowLaws.{at-place}
 use Rattle.tq_tables.proofs.Settled.{IsPlace, are-places-of, node-found}
-use Rattle.tq_tables.proofs.file_row.FileRow.stand_each.Goals as goal
+use Rattle.tq_tables.proofs.file_row.FileRow.set_currency_of_each.Goals as goal
 
-pub stand-requires-clause-least : goal.stand-requires-clause-least
-stand-requires-clause-least c = omega arith
+pub set_currency-requires-clause-least : goal.set_currency-requires-clause-least
+set_currency-requires-clause-least c = omega arith
 
 pub loop-server-init : goal.loop-server-init
 loop-server-init c =
@@ -31,17 +31,17 @@ bounds-nodes-place c =
     let place = All-head (IsPlace (length nodes)) c.in-Some.server c.next.new.self (subst (λ (servers : List Server). All (IsPlace (length nodes)) servers) c.in-Some.ensures.steps c.loop-server.invariant.places) in
     omega (arith, place.0, place.1, c.number.ensures.value)
 
-pub stand-requires-clause-current : goal.stand-requires-clause-current
-stand-requires-clause-current c =
+pub set_currency-requires-clause-current : goal.set_currency-requires-clause-current
+set_currency-requires-clause-current c =
     let nodes = c.args.nodes.now in
     let place = All-head (IsPlace (length nodes)) c.in-Some.server c.next.new.self (subst (λ (servers : List Server). All (IsPlace (length nodes)) servers) c.in-Some.ensures.steps c.loop-server.invariant.places) in
     let number = c.number.ensures.value in
     let less : c.number.result - 1 < length nodes = omega (arith, place.0, place.1, number) in
     (at-place c.args.self.now.current.levels 1 nodes c.requires.of_tree (c.number.result - 1) c.index-nodes-place.result less c.index-nodes-place.is).0 ∙ sym c.loop-server.invariant.of_tree.0
 
-pub stand-requires-clause-stale : goal.stand-requires-clause-stale
-stand-requires-clause-stale c =
-    stand-requires-clause-current c ∙ c.loop-server.invariant.of_tree.0 ∙ sym c.loop-server.invariant.of_tree.1
+pub set_currency-requires-clause-stale : goal.set_currency-requires-clause-stale
+set_currency-requires-clause-stale c =
+    set_currency-requires-clause-current c ∙ c.loop-server.invariant.of_tree.0 ∙ sym c.loop-server.invariant.of_tree.1
 
 pub loop-server-preserved : goal.loop-server-preserved
 loop-server-preserved c =
@@ -54,9 +54,9 @@ loop-server-preserved c =
     let place = All-head (IsPlace (length nodes)) server rest (subst (λ (servers : List Server). All (IsPlace (length nodes)) servers) steps c.loop-server.invariant.places) in
     let found = node-found nodes server node place (c.index-nodes-place.is ∙ ap (λ (k : ℕ). get_or nodes (k - 1) node) c.number.ensures.value) in
     record {
-      of_tree = subst (λ (r : FileRow). IsOfLevels levels r) (sym c.stand.ensures) (stood-levels levels node c.loop-server.self c.loop-server.invariant.of_tree);
+      of_tree = subst (λ (r : FileRow). IsOfLevels levels r) (sym c.set_currency.ensures) (stood-levels levels node c.loop-server.self c.loop-server.invariant.of_tree);
       places = All-rest (IsPlace (length nodes)) server rest c.loop-server.server-iterator steps c.loop-server.invariant.places;
-      same = ap (λ (r : FileRow). stood_in nodes r rest) (c.stand.ensures ∙ ap (λ (n : NodeView). row_by_copy n c.loop-server.self) found)
+      same = ap (λ (r : FileRow). stood_in nodes r rest) (c.set_currency.ensures ∙ ap (λ (n : NodeView). row_by_copy n c.loop-server.self) found)
           ∙ sym (ap (stood_in nodes c.loop-server.self) steps)
           ∙ c.loop-server.invariant.same;
     }
