@@ -69,7 +69,7 @@ def lost(count):
             missing = lacking(down, 1)
             if len(missing) == count:
                 lines = [*written(1, "plan"), "commit 1", *(f"down {it}" for it in sorted(down)), "begin", "read 2 plan"]
-                return 3, lines, "a quorum for reading and writing", has_quorum, [f"up {it}" for it in missing]
+                return 3, lines, "a quorum", has_quorum, [f"up {it}" for it in missing]
 
     return broken
 
@@ -130,12 +130,12 @@ def stopped_in_end(dice):
 def stale_copies(dice):
     name, server = dice.choice(NAMES), dice.randrange(1, 8)
     lines = [f"down {server}", *written(1, name), "commit 1"]
-    return 3, lines, f"every copy of {name} current", is_current(name), [f"up {server}", "refresh"]
+    return 3, lines, f"no stale copy of {name}", is_current(name), [f"up {server}", "refresh"]
 
 
 def nowhere_yet(dice):
     lines, pair, name = voted(dice)
-    return 2, [*lines, "decide 1", "refresh"], f"every copy of {name} current", is_current(name), [f"apply 1 {pair[0]}", "refresh"]
+    return 2, [*lines, "decide 1", "refresh"], f"no stale copy of {name}", is_current(name), [f"apply 1 {pair[0]}", "refresh"]
 
 
 def all_well(dice):
