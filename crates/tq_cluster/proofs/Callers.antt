@@ -1,6 +1,6 @@
 -- The callers of a run: one more of them, and all of them turned round.
 use Rattle.std.proofs.Common.{◌≡◌, ◌≤◌, ◌-◌, ℕ, ◌+◌, List, [], ◌∷◌, ◌++◌, refl, sym, ◌∙◌, ap, subst, append_assoc, append-nil, length, length-append, take, drop, get_or, arith}
-use Rattle.std.specs.Prelude.{reverse}
+use Rattle.std.specs.Prelude.{Option, Some, None, MatchOption, reverse}
 use Rattle.std.specs.List.{AllByRecursion}
 use Rattle.std.proofs.lemmas.List.{reverse-append, length-reverse, take_all}
 use Rattle.tq_shape.specs.Limits.{LimitsView}
@@ -12,8 +12,9 @@ use Rattle.tq_refresh.specs.Mending.{refresh_asked, Grows}
 use Rattle.tq_cluster.specs.declared.workers.Message.{Message}
 use Rattle.tq_cluster.specs.declared.workers.Message.TheVariants as messages
 use Rattle.tq_cluster.specs.Told.{CallerView}
-use Rattle.tq_cluster.specs.Clients.{RunsScript, JobsMake, Refreshes, AllRan}
+use Rattle.tq_cluster.specs.Clients.{RunsScript, JobsMake, Refreshes, AllRan, if_made}
 use Rattle.tq_cluster.specs.Backwards.{jobs_in, Works, AllWork, WorkBackwards, RunBackwards}
+use Rattle.tq_cluster.proofs.OfParts.{all_and}
 
 -- ---- messages
 
@@ -80,17 +81,21 @@ one_script_more levels there limits bounds (s ∷ ss) named workers taken front 
       subst (λ (l : List Line). RunsScript levels limits l c) is within_limits,
     )
 
+-- what came of its thread
+pub one_client_more : (levels there : ℕ) (limits bounds : LimitsView) (scripts : List (List Line)) (named : List Line) (workers : ℕ) (taken : List (ℕ × Message)) (front : List CallerView) (made : Option CallerView) → 1 ≤ length scripts
+    → named ≡ get_or scripts 0 named → there ≡ levels → bounds ≡ limits
+    → RunBackwards levels limits (take (length scripts - 1) (drop 1 scripts)) workers taken front → MatchOption made ⊥ (RunsScript there bounds named) → RunBackwards levels limits scripts workers taken (front ++ if_made made)
+one_client_more levels there limits bounds scripts named workers taken front None some is tree within ran run = absurd run
+one_client_more levels there limits bounds scripts named workers taken front (Some c) some is tree within ran run =
+    one_script_more levels there limits bounds scripts named workers taken front c some is tree within ran run
+
 -- ---- turned round
 
 all_refresh : (levels : ℕ) (taken : List (ℕ × Message)) (cs : List CallerView) → AllWork levels taken cs → AllByRecursion (Refreshes levels) cs
 all_refresh levels taken [] work = tt
 all_refresh levels taken (c ∷ cs) work = ((jobs_in work.0, work.3), all_refresh levels work.1 cs work.4)
 
-all_and : (P : CallerView → Type 0) (cs : List CallerView) (c : CallerView) → AllByRecursion P cs → P c → AllByRecursion P (cs ++ c ∷ [])
-all_and P [] c all one = (one, tt)
-all_and P (d ∷ cs) c all one = (all.0, all_and P cs c all.1 one)
-
-all_turned : (P : CallerView → Type 0) (cs : List CallerView) → AllByRecursion P cs → AllByRecursion P (reverse cs)
+pub all_turned : (P : CallerView → Type 0) (cs : List CallerView) → AllByRecursion P cs → AllByRecursion P (reverse cs)
 all_turned P [] all = tt
 all_turned P (c ∷ cs) all = subst (AllByRecursion P) (sym (reverse-append (c ∷ []) cs)) (all_and P (reverse cs) c (all_turned P cs all.1) all.0)
 

@@ -13,7 +13,7 @@ use Rattle.tq_mirror.specs.declared.entries.Entries.{Entries}
 use Rattle.tq_mirror.specs.declared.entries.Entries.TheVariants as entries
 use Rattle.tq_mirror.specs.declared.fault.PullFault.{PullFault}
 use Rattle.tq_mirror.specs.declared.fault.PullFault.TheVariants as faults
-use Rattle.tq_mirror.specs.Prefixes.{IsPullFault, IsTaken, journals_with, prefix_length}
+use Rattle.tq_mirror.specs.Prefixes.{IsForeign, IsPartOf, IsPullFault, IsTaken, journals_with, prefix_length}
 use Rattle.tq_cluster.specs.Told.{CallerView, having_seen, seen_of}
 use Rattle.tq_cluster.specs.Pulls.{Continues, EachContinues, EndedAt, HasSeenBefore, HasSeenServers, IsPull, SawWhatCame, seen_then}
 use Rattle.tq_cluster.proofs.Pulled.{continues-grown, continues-same, other-prefix, other-seen, servers-desk}
@@ -231,6 +231,18 @@ module _ (start old new : JournalsView) (first middle after : CallerView) (befor
 
 -- ---- a pull of all parts that ended at one
 
+-- the fault is that of the part
+pub ended-at : (prefixes : JournalsView) (caller : CallerView) (part : Part) (more : Entries) (fault : PullFault) → IsPartOf prefixes.levels part → HasSeenBefore prefixes caller part → IsPullFault prefixes part more (seen_of caller part) fault
+    → EndedAt prefixes caller fault
+ended-at prefixes caller part more faults.Memory is_part before why = tt
+ended-at prefixes caller part more (faults.Foreign there given) is_part before why =
+    let same = sym why.0 in
+    record {
+      is_part = subst (λ (p : Part). IsPartOf prefixes.levels p) same is_part;
+      before = subst (λ (p : Part). HasSeenBefore prefixes caller p) same before;
+      foreign = subst (λ (p : Part). IsForeign prefixes p given (seen_of caller p)) same (subst (λ (e : Entries). IsForeign prefixes part e (seen_of caller part)) (sym why.1.0) why.1.1);
+    }
+
 -- at a server
 pub before-server : (prefixes new : JournalsView) (caller after : CallerView) (place seen : ℕ) → HasSeenServers prefixes caller place → new ≡ prefixes → after ≡ having_seen caller (parts.Server (place + 1)) seen
     → HasSeenBefore new after (parts.Server (place + 1))
@@ -283,10 +295,5 @@ ended-after start middle new first second after levels of_desk seen_desk (Err f)
     let with_desk : HasSeenServers middle second (2 ^ levels - 1) =
     subst (λ (o : JournalsView). HasSeenServers o second (2 ^ levels - 1)) (sym grew)
     (subst (λ (c : CallerView). HasSeenServers (journals_with start parts.Desk of_desk) c (2 ^ levels - 1)) (sym saw) (servers-desk start first (2 ^ levels - 1) seen_desk of_desk servers)) in
-    record {
-      part = parts.View;
-      is_part = tt;
-      before = before-view middle new second after levels (seen_of after parts.View) with_desk desk same told (ap (λ (o : JournalsView). o.levels) same ∙ tree);
-      more = fault.0;
-      why = subst (λ (o : JournalsView). IsPullFault o parts.View fault.0 (seen_of after parts.View) f) (sym same) fault.1;
-    }
+    ended-at new after parts.View fault.0 f tt (before-view middle new second after levels (seen_of after parts.View) with_desk desk same told (ap (λ (o : JournalsView). o.levels) same ∙ tree))
+    (subst (λ (o : JournalsView). IsPullFault o parts.View fault.0 (seen_of after parts.View) f) (sym same) fault.1)

@@ -4,6 +4,8 @@ pub mod Closing
 pub mod Seen
 pub mod Pulled
 pub mod Puts
+pub mod OfParts
 pub mod Callers
+pub mod Begun
 pub mod Crossing
 pub mod Came

@@ -7,7 +7,8 @@ use Rattle.tq_tables.specs.Journals.{JournalsView, ViewEntry}
 use Rattle.tq_cells.specs.Passes.{last_behind}
 use Rattle.tq_mirror.specs.declared.entries.Entries.{Entries}
 use Rattle.tq_mirror.specs.declared.fault.PullFault.{PullFault}
-use Rattle.tq_mirror.specs.Prefixes.{IsPartOf, IsPullFault, journals_with, prefix_length}
+use Rattle.tq_mirror.specs.declared.fault.PullFault.TheVariants as faults
+use Rattle.tq_mirror.specs.Prefixes.{IsForeign, IsPartOf, IsPullFault, journals_with, prefix_length}
 use Rattle.tq_mirror.specs.Astray.{ComesBefore}
 use Rattle.tq_cluster.specs.Told.{CallerView, seen_of}
 
@@ -58,10 +59,13 @@ SawWhatCame old new before after = (part : Part) → seen_of after part ≡ seen
 abbrev pub HasSeenBefore : JournalsView → CallerView → Part → Type 0
 HasSeenBefore prefixes caller part = (before : Part) → IsPartOf prefixes.levels before → ComesBefore before part → seen_of caller before ≤ prefix_length prefixes before
 
--- a pull of all parts ended with a fault at a part of the system, whose entries were not taken; those before it were pulled
-pub record EndedAt (prefixes : JournalsView) (caller : CallerView) (fault : PullFault) : Type 0 where
-  pub part : Part
+-- these entries of a part of the system were not taken, and those before it were pulled
+pub record StoppedAt (prefixes : JournalsView) (caller : CallerView) (part : Part) (given : Entries) : Type 0 where
   pub is_part : IsPartOf prefixes.levels part
   pub before : HasSeenBefore prefixes caller part
-  pub more : Entries
-  pub why : IsPullFault prefixes part more (seen_of caller part) fault
+  pub foreign : IsForeign prefixes part given (seen_of caller part)
+
+-- a pull of all parts ended so: memory was refused, or at the part that the fault names
+abbrev pub EndedAt : JournalsView → CallerView → PullFault → Type 0
+EndedAt prefixes caller faults.Memory = ⊤
+EndedAt prefixes caller (faults.Foreign part given) = StoppedAt prefixes caller part given

@@ -1,5 +1,6 @@
 -- What a caller of a cluster was told.
 use Rattle.std.specs.Prelude.{◌≡◌, ◌≤◌, ◌⊎◌, ℕ, ◌-◌, ◌^◌, List, [], ◌∷◌, Result, Ok, Err, IfOk, IfErr, OnErr, get_or, max, set, replicate}
+use Rattle.std.specs.List.{AllByRecursion}
 use Rattle.tq_shape.specs.declared.part.Part.{Part}
 use Rattle.tq_shape.specs.declared.part.Part.TheVariants as parts
 use Rattle.tq_cells.specs.Passes.{IsToldBy}
@@ -17,6 +18,7 @@ use Rattle.tq_live.specs.View.{view_state, view_reply, view_after}
 use Rattle.tq_live.specs.declared.view.ViewAsk.{ViewAsk}
 use Rattle.tq_live.specs.declared.view.ViewReply.{ViewReply}
 use Rattle.tq_txn.specs.declared.asker.Exchange.{Exchange}
+use Rattle.tq_txn.specs.declared.asker.Exchange.TheVariants as exchanges
 use Rattle.tq_txn.specs.Dialogue.{Told, unless_memory}
 use Rattle.tq_part.specs.declared.fault.AskFault.{AskFault}
 use Rattle.tq_part.specs.declared.fault.AskFault.TheVariants as faults
@@ -83,3 +85,21 @@ IsToldByDesk = IsToldBy (λ (s : DeskView) (n : ℕ) (a : DeskAsk). desk_reply s
 
 abbrev pub IsToldByView : ℕ → ViewAsk → ViewReply → Type 0
 IsToldByView = IsToldBy (λ (s : Live) (n : ℕ) (a : ViewAsk). view_reply s a) (λ s n a. view_after s a) (λ s. view_state s.levels [])
+
+-- the exchange is one of a part: what was told stands so in a legal journal of some part of its kind; or the ask was not
+-- taken since the part's journal is full
+abbrev pub IsOfPart : Exchange → Type 0
+IsOfPart (exchanges.Node server ask (Ok told)) = IsToldByServer told.number ask told.reply
+IsOfPart (exchanges.Node server ask (Err fault)) = fault ≡ faults.JournalFull (parts.Server server)
+IsOfPart (exchanges.Desk ask (Ok told)) = IsToldByDesk told.number ask told.reply
+IsOfPart (exchanges.Desk ask (Err fault)) = fault ≡ faults.JournalFull parts.Desk
+IsOfPart (exchanges.View ask (Ok told)) = IsToldByView told.number ask told.reply
+IsOfPart (exchanges.View ask (Err fault)) = fault ≡ faults.JournalFull parts.View
+
+-- each of these exchanges is
+abbrev pub AreOfParts : List Exchange → Type 0
+AreOfParts told = AllByRecursion IsOfPart told
+
+-- all that these callers were told was told by parts
+abbrev pub AreToldByParts : List CallerView → Type 0
+AreToldByParts callers = AllByRecursion (λ (c : CallerView). AreOfParts c.told) callers

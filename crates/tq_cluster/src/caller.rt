@@ -9,7 +9,8 @@ use tq_node::Node;
 use tq_shape::{Levels, Seq};
 use tq_txn::Exchange;
 
-/// One who asks the parts of a cluster: a pass for each part, and what it was told of its asks, in their order.
+/// One who asks the parts of a cluster: a pass for each part, and what it was told of its asks, in their order. All of
+/// this was told by parts.
 pub struct Caller {
     levels: Levels,
     pub(crate) servers: Vec<Pass<Node>>,
@@ -33,7 +34,7 @@ impl Drop for Caller {
 
 impl Model for Caller {
     ghost use Rattle.std.specs.Prelude.{◌≡◌, ◌+◌, ◌^◌, length, map};
-    ghost use Rattle.tq_cluster.specs.Told.{CallerView};
+    ghost use Rattle.tq_cluster.specs.Told.{AreOfParts, CallerView};
 
     ghost Value = { CallerView };
 
@@ -47,7 +48,8 @@ impl Model for Caller {
       };
     } };
 
-    ghost invariant = { λ c. length c.servers.items + 1 ≡ 2 ^ c.levels };
+    ghost invariant = { λ c.
+        (length c.servers.items + 1 ≡ 2 ^ c.levels) × AreOfParts c.told.items };
 }
 
 impl Caller {

@@ -3,9 +3,9 @@ ghost use Rattle.crossbeam_channel.specs.Claims.{view};
 ghost use Rattle.crossbeam_channel.specs.Ends.{sends_on};
 ghost use Rattle.tq_queue.specs.Rule.{hand, IsPrefixTaken};
 ghost use Rattle.tq_cluster.specs.declared.workers.Message.{Message};
-ghost use Rattle.tq_cluster.specs.Told.{CallerView};
-ghost use Rattle.tq_cluster.specs.Clients.{RunsScript, AllRan};
-ghost use Rattle.tq_cluster.specs.Backwards.{RunBackwards};
+ghost use Rattle.tq_cluster.specs.Told.{AreToldByParts, CallerView};
+ghost use Rattle.tq_cluster.specs.Clients.{AllBegan, AllRan, if_made};
+ghost use Rattle.tq_cluster.specs.Backwards.{BeganBackwards, HaveBegun, IsClient, RunBackwards};
 
 use crate::asking::Asking;
 use crate::caller::Caller;
@@ -34,47 +34,63 @@ pub struct Ran {
     pub memory: bool,
 }
 
-/// A caller that ran a script, and whether it met want of memory.
+/// The caller that a thread made and ran a script by, if one could be made, and whether memory was refused.
 #[derive(Drop)]
 pub(crate) struct Client {
-    pub(crate) caller: Caller,
+    pub(crate) caller: Option<Caller>,
     pub(crate) memory: bool,
 }
 
-/// Runs a script, by a caller that was told nothing yet.
+/// Runs a script, by a caller of its own.
 fn run_client<R: Wait, G: Gate + Drop>(
     rt: &R,
     alloc: Global,
     cluster: &Cluster<G>,
-    caller: Caller,
     script: &Script,
 ) -> Client
-    requires tree { caller.levels ≡ cluster.now.levels }
-    requires fresh { caller.told ≡ [] }
-    ensures { result.memory ≡ false
-        → RunsScript cluster.now.levels cluster.now.limits script.now result.caller }
+    ensures { IsClient cluster.now.levels cluster.now.limits script.now
+        result.memory result.caller }
 {
+    let Ok(caller) = cluster.caller(alloc) else {
+        return Client {
+            caller: None,
+            memory: true,
+        };
+    };
     let levels = cluster.levels();
     let limits = cluster.limits();
     let mut asking = Asking::new(rt, cluster, caller);
     let ended = run_script(&mut asking, alloc, levels, limits, script);
     Client {
-        caller: asking.into_caller(),
+        caller: Some(asking.into_caller()),
         memory: ended.is_err(),
     }
 }
 
-/// The caller that comes back was told what the script's lines make, unless memory ran out.
+/// The caller that comes back was told what the script's lines make, or the first of it where memory ran out.
 #[derive(Clone, Copy)]
 pub(crate) struct Follows<'a>(Levels, Limits, &'a Script);
 
 impl<'a> Promise<Client> for Follows<'a> {
-    ghost kept_by = { λ p r. r.memory ≡ false → RunsScript p.0 p.1 p.2.now r.caller };
+    ghost kept_by = { λ p r. IsClient p.0 p.1 p.2.now r.memory r.caller };
+}
+
+/// Puts the caller behind those that are there, if it was made.
+fn put_made(callers: &mut Vec<Caller>, made: Option<Caller>)
+    requires { vec_len callers.old < vec_capacity callers.old }
+    ensures items { callers.new.items ≡ callers.old.items ++ if_made made }
+    ensures len { vec_len callers.new ≤ vec_len callers.old + 1 }
+    ensures room { vec_capacity callers.new ≡ vec_capacity callers.old }
+{
+    match made {
+        Some(caller) => callers.push_reserved(caller),
+        None => (),
+    }
 }
 
 /// Runs each script in a thread of its own, and then the workers, and puts all callers behind those that are there, the
-/// one that was made last first. Those whose threads were started come back also where another thread or its caller is
-/// refused. Whether memory was refused.
+/// one that was made last first: also where another thread is refused, or memory for its caller. A script whose thread is
+/// refused has no caller. Whether memory was refused.
 fn run_all<'s, 'e: 's, R: Threads + Wait + Sync, G: Gate + Drop + Sync>(
     scope: &'s Scope<'s, &'e ()>,
     rt: &'e R,
@@ -92,6 +108,8 @@ fn run_all<'s, 'e: 's, R: Threads + Wait + Sync, G: Gate + Drop + Sync>(
         × (callers.new.items ≡ callers.old.items ++ more)
         × ((view putter.new.pass).taken ≡ (view putter.old.pass).taken ++ taken)
         × RunBackwards cluster.now.levels cluster.now.limits scripts.now team.workers taken more }
+    ensures began { HaveBegun cluster.now.levels cluster.now.limits scripts.now
+        callers.old.items callers.new.items }
     ensures parts { result ≡ false → (view putter.new.pass).parts ≡ (view putter.old.pass).parts }
     ensures len { vec_len callers.new
         ≤ vec_len callers.old + length scripts.now + team.workers + 1 }
@@ -100,16 +118,12 @@ fn run_all<'s, 'e: 's, R: Threads + Wait + Sync, G: Gate + Drop + Sync>(
     let [script, rest @ ..] = scripts else {
         return run_workers(scope, rt, alloc, cluster, team, 0, putter, callers);
     };
-    let Ok(caller) = cluster.caller(alloc) else {
-        return true;
-    };
     let started = scope.spawn_with(
         Follows(cluster.levels(), cluster.limits(), script),
         move || -> Client
-            requires { (caller.levels ≡ cluster.now.levels) × (caller.told ≡ []) }
-            ensures { result.memory ≡ false → RunsScript cluster.entry.now.levels
-                cluster.entry.now.limits script.entry.now result.caller }
-        { run_client(rt, alloc, cluster, caller, script) },
+            ensures { IsClient cluster.entry.now.levels cluster.entry.now.limits
+                script.entry.now result.memory result.caller }
+        { run_client(rt, alloc, cluster, script) },
     );
     match started {
         Ok(child) => {
@@ -118,7 +132,7 @@ fn run_all<'s, 'e: 's, R: Threads + Wait + Sync, G: Gate + Drop + Sync>(
                 caller,
                 memory: mine,
             } = child.join(rt);
-            callers.push_reserved(caller);
+            put_made(callers, caller);
             either(memory, mine)
         }
         Err(refused) => {
@@ -155,6 +169,8 @@ fn run_in_threads<R: Threads + Wait + Sync, G: Gate + Drop + Sync>(
     ensures ran { result.memory ≡ false
         → RunBackwards cluster.now.levels cluster.now.limits scripts.now team.workers
         (view result.queue.value.pass).taken result.callers.items }
+    ensures began { BeganBackwards cluster.now.levels cluster.now.limits scripts.now
+        result.callers.items }
     ensures once { result.memory ≡ false → (items : List Message) × IsPrefixTaken
         (view result.queue.value.pass).put (view result.queue.value.pass).taken items }
 {
@@ -165,9 +181,11 @@ fn run_in_threads<R: Threads + Wait + Sync, G: Gate + Drop + Sync>(
             requires { (team.workers ≤ 2)
                 × (vec_len callers + length scripts.now + team.workers + 1 ≤ vec_capacity callers)
                 × (callers.items ≡ []) × (view putter.pass ≡ hand 1024 true [] []) }
-            ensures { result.2 ≡ false → RunBackwards cluster.entry.now.levels
+            ensures { (result.2 ≡ false → RunBackwards cluster.entry.now.levels
                 cluster.entry.now.limits scripts.entry.now team.workers (view result.1.pass).taken
-                result.0.items × ((view result.1.pass).parts ≡ 1024) }
+                result.0.items × ((view result.1.pass).parts ≡ 1024))
+                × BeganBackwards cluster.entry.now.levels cluster.entry.now.limits
+                scripts.entry.now result.0.items }
         {
             let memory = run_all(
                 scope,
@@ -198,12 +216,22 @@ fn run_in_threads<R: Threads + Wait + Sync, G: Gate + Drop + Sync>(
     }
 }
 
+/// All that these callers were told was told by parts. This does nothing, and says so.
+fn see_told(callers: &[Caller])
+    ensures { AreToldByParts callers.now }
+{
+    for caller in callers {
+        let _ = &caller.told;
+    }
+}
+
 impl<G: Gate + Drop + Sync> Cluster<G> {
     /// Runs each script in a thread of its own, by a caller of its own, while so many workers, each in a thread of its
     /// own too, refresh stale copies: so often the calling thread pulls the board, plans, and puts the jobs into the
-    /// workers' queue. It gives the callers back once all threads have ended. Where a caller, the queue or a thread is
-    /// refused, the threads that were started run to their end, and memory is refused.
-    #[tactic(auto, using(crate::proofs::Callers::run_in_order))]
+    /// workers' queue. It gives the callers back once all threads have ended: every one that was made. Where a caller, the
+    /// queue or a thread is refused, the threads that were started run to their end, and memory is refused. Each caller
+    /// was told the first of what its script asks, or its jobs; all of it unless memory was refused.
+    #[tactic(auto, using(crate::proofs::Callers::run_in_order, crate::proofs::Begun::began_in_order, crate::proofs::Begun::none_in_order,))]
     pub fn run_clients<R: Threads + Wait + Sync>(
         &self,
         rt: &R,
@@ -215,8 +243,11 @@ impl<G: Gate + Drop + Sync> Cluster<G> {
         requires scripts { vec_len scripts ≤ 16 }
         requires workers { workers ≤ 2 }
         requires rounds { rounds ≤ 1000 }
-        ensures { result.memory ≡ false
+        ensures ran { result.memory ≡ false
             → AllRan self.now.levels self.now.limits scripts.items workers result.callers.items }
+        ensures began { AllBegan self.now.levels self.now.limits scripts.items
+            result.callers.items }
+        ensures told { AreToldByParts result.callers.items }
     {
         let mut callers = Vec::new(alloc);
         let many = scripts.len() + workers as usize + 1;
@@ -239,6 +270,7 @@ impl<G: Gate + Drop + Sync> Cluster<G> {
             memory,
         } = run_in_threads(rt, alloc, self, scripts.as_slice(), team, putter, callers);
         callers.reverse();
+        see_told(callers.as_slice());
         Ran { callers, memory }
     }
 }

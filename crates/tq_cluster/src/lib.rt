@@ -27,3 +27,5 @@ pub use explained::Explained;
 pub use live_board::LiveBoard;
 pub use tq_merge::CloseFault;
 pub use tq_mirror::{Entries, PullFault};
+pub use tq_syntax::Script;
+pub use tq_syntax::script::Line;

@@ -139,7 +139,8 @@ impl LiveBoard {
     }
 
     /// Pulls all parts through the caller: the servers upwards, the desk and the view. Answers the fault of the first part
-    /// that is not pulled; the parts before it stay pulled, and nothing is pulled of those after it.
+    /// that is not pulled; the parts before it stay pulled, and nothing is pulled of those after it. Of `Memory`, which
+    /// names no part, the clauses say no more than that each part goes on.
     pub fn pull<R: Wait, G: Gate + Drop>(
         &mut self,
         rt: &R,

@@ -4,14 +4,15 @@ ghost use Rattle.crossbeam_channel.specs.Claims.{view};
 ghost use Rattle.crossbeam_channel.specs.Ends.{sends_on};
 ghost use Rattle.tq_refresh.specs.Plan.{ArePlanned, jobs_in, jobs_of_plan};
 ghost use Rattle.tq_cluster.specs.declared.workers.Message.{Message};
-ghost use Rattle.tq_cluster.specs.Rounds.{planned_on, with_jobs};
+ghost use Rattle.tq_tables.specs.Journals.{JournalsView};
+ghost use Rattle.tq_cluster.specs.Rounds.{AreRounds, IsPut, IsRound, with_jobs};
 ghost use Rattle.tq_cluster.specs.Told.{CallerView};
-ghost use Rattle.tq_cluster.specs.Backwards.{WorkBackwards};
+ghost use Rattle.tq_cluster.specs.Backwards.{HaveBegun, WorkBackwards};
 
 use crate::caller::Caller;
 use crate::cluster::Cluster;
 use crate::live_board::LiveBoard;
-use crate::workers::{Message, Team};
+use crate::workers::{Message, Team, either};
 use std::alloc::Global;
 use std::sync::Wait;
 use tq_cells::Gate;
@@ -89,8 +90,9 @@ fn put_plan<R: Wait>(
     workers: u32,
     putter: &mut Putter<Message>,
 ) -> Round
-    ensures put { result ≡ Round.Put → 0 < workers
-        → (view putter.new.pass).put ≡ with_jobs (view putter.old.pass).put (planned_on board.now) }
+    ensures put { IsPut result workers board.now
+        (view putter.old.pass).put (view putter.new.pass).put }
+    ensures pulled { result ≡ Round.Foreign → ⊥ }
     ensures channel { sends_on putter.new.sender ≡ sends_on putter.old.sender }
     ensures parts { (view putter.new.pass).parts ≡ (view putter.old.pass).parts }
     ensures taken { (view putter.new.pass).taken ≡ (view putter.old.pass).taken }
@@ -134,8 +136,8 @@ fn run_round<R: Wait, G: Gate + Drop>(
     requires caller { caller.old.levels ≡ cluster.now.levels }
     requires levels { board.old.levels ≡ cluster.now.levels }
     requires limits { board.old.limits ≡ cluster.now.limits }
-    ensures put { result ≡ Round.Put → 0 < workers
-        → (view putter.new.pass).put ≡ with_jobs (view putter.old.pass).put (planned_on board.new) }
+    ensures round { IsRound result workers board.old board.new caller.old caller.new
+        (view putter.old.pass).put (view putter.new.pass).put }
     ensures told { caller.new.told ≡ caller.old.told }
     ensures tree { caller.new.levels ≡ caller.old.levels }
     ensures levels { board.new.levels ≡ board.old.levels }
@@ -156,8 +158,15 @@ fn run_round<R: Wait, G: Gate + Drop>(
     }
 }
 
+/// Whether memory was refused in a round that ended so.
+fn is_memory(round: Round) -> bool
+    ensures { result ≡ false → round ≡ Round.Memory → ⊥ }
+{
+    matches!(round, Round::Memory)
+}
+
 /// Pulls the board so often as the team says, by a caller of its own, and puts the jobs of each round; then it puts a
-/// stop for each worker. Its caller is put behind those that are there. Whether memory was refused.
+/// stop for each worker. Its caller is put behind those that are there. Whether memory was refused, in whichever round.
 pub(crate) fn run_rounds<R: Wait, G: Gate + Drop>(
     rt: &R,
     alloc: Global,
@@ -171,6 +180,12 @@ pub(crate) fn run_rounds<R: Wait, G: Gate + Drop>(
         × (callers.new.items ≡ callers.old.items ++ more)
         × ((view putter.new.pass).taken ≡ (view putter.old.pass).taken ++ taken)
         × WorkBackwards cluster.now.levels 0 taken more }
+    ensures rounds { result ≡ false → (board : JournalsView) × (own : CallerView) × (put : List Message)
+        × (callers.new.items ≡ callers.old.items ++ own ∷ [])
+        × AreRounds cluster.now.levels cluster.now.limits team.workers team.rounds board own
+        (view putter.old.pass).put put }
+    ensures began { HaveBegun cluster.now.levels cluster.now.limits []
+        callers.old.items callers.new.items }
     ensures channel { sends_on putter.new.sender ≡ sends_on putter.old.sender }
     ensures parts { (view putter.new.pass).parts ≡ (view putter.old.pass).parts }
     ensures len { vec_len callers.new ≤ vec_len callers.old + 1 }
@@ -186,7 +201,7 @@ pub(crate) fn run_rounds<R: Wait, G: Gate + Drop>(
         return true;
     };
     let mut memory = false;
-    for _ in 0..team.rounds {
+    for made in 0..team.rounds {
         let round = run_round(
             rt,
             alloc,
@@ -196,9 +211,7 @@ pub(crate) fn run_rounds<R: Wait, G: Gate + Drop>(
             &mut caller,
             putter,
         );
-        if matches!(round, Round::Memory) {
-            memory = true;
-        }
+        memory = either(memory, is_memory(round));
     }
     stop(rt, putter, team.workers);
     callers.push_reserved(caller);

@@ -3,7 +3,8 @@ ghost use Rattle.crossbeam_channel.specs.Claims.{view};
 ghost use Rattle.crossbeam_channel.specs.Ends.{sends_on, receives_on};
 ghost use Rattle.tq_cluster.specs.declared.workers.Message.{Message};
 ghost use Rattle.tq_cluster.specs.Told.{CallerView};
-ghost use Rattle.tq_cluster.specs.Backwards.{jobs_in, Works, WorkBackwards};
+ghost use Rattle.tq_cluster.specs.Clients.{BeginsJobs, JobsBegin};
+ghost use Rattle.tq_cluster.specs.Backwards.{HaveBegun, jobs_in, Works, WorkBackwards};
 
 use crate::asking::Asking;
 use crate::caller::Caller;
@@ -69,6 +70,7 @@ fn work<R: Wait, G: Gate + Drop>(
     requires idle { (view taker.pass).taken ≡ [] }
     ensures told { result.memory ≡ false
         → Works cluster.now.levels (view result.taker.pass).taken result.caller }
+    ensures began { BeginsJobs cluster.now.levels result.caller }
     ensures channel { receives_on result.taker.receiver ≡ receives_on taker.receiver }
 {
     let levels = cluster.levels();
@@ -78,9 +80,8 @@ fn work<R: Wait, G: Gate + Drop>(
         let Some(job) = next_job(rt, &mut taker) else {
             break;
         };
-        if refresh(&mut asking, alloc, levels, &job) {
-            memory = true;
-        }
+        let refused = refresh(&mut asking, alloc, levels, &job);
+        memory = either(memory, refused);
     }
     WorkerResult {
         caller: asking.into_caller(),
@@ -89,14 +90,15 @@ fn work<R: Wait, G: Gate + Drop>(
     }
 }
 
-/// The worker's caller was told what the jobs ask that it took, unless memory ran out, and its end is one of the same
-/// queue.
+/// The worker's caller was told what the jobs ask that it took, or the first of it where memory ran out, and its end is
+/// one of the same queue.
 #[derive(Drop)]
 pub(crate) struct WorkerPromise(Levels, Snapshot<Taker<Message>>);
 
 impl Promise<WorkerResult> for WorkerPromise {
     ghost kept_by = { λ p r. (r.memory ≡ false → Works p.0 (view r.taker.pass).taken r.caller)
-        × (receives_on r.taker.receiver ≡ receives_on p.1.value.receiver) };
+        × (receives_on r.taker.receiver ≡ receives_on p.1.value.receiver)
+        × BeginsJobs p.0 r.caller };
 }
 
 /// What a worker's thread takes along.
@@ -124,11 +126,11 @@ fn seat_for_worker<R: Wait, G: Gate + Drop>(
     ensures taken { (view putter.new.pass).taken ≡ (view putter.old.pass).taken }
     ensures some_part { 0 < (view putter.new.pass).parts }
 {
-    let Ok(caller) = cluster.caller(alloc) else {
+    let Ok(taker) = putter.taker() else {
         stop(rt, putter, started);
         return None;
     };
-    let Ok(taker) = putter.taker() else {
+    let Ok(caller) = cluster.caller(alloc) else {
         stop(rt, putter, started);
         return None;
     };
@@ -144,8 +146,8 @@ pub(crate) fn either(one: bool, other: bool) -> bool
 
 /// Starts the workers that are not started yet, pulls the board and puts the jobs for all of them, and joins them. Their
 /// callers are put behind those that are there, the calling thread's first, and then the last worker's. Where a caller,
-/// an end of the queue or a thread is refused, those that were started are stopped and come back, and no jobs are put.
-/// Whether memory was refused.
+/// an end of the queue or a thread is refused, those that were started are stopped and come back, and no jobs are put; a
+/// worker whose thread is refused is stopped with them, in the calling thread. Whether memory was refused.
 pub(crate) fn run_workers<'s, 'e: 's, R: Threads + Wait + Sync, G: Gate + Drop + Sync>(
     scope: &'s Scope<'s, &'e ()>,
     rt: &'e R,
@@ -163,6 +165,8 @@ pub(crate) fn run_workers<'s, 'e: 's, R: Threads + Wait + Sync, G: Gate + Drop +
         × (callers.new.items ≡ callers.old.items ++ more)
         × ((view putter.new.pass).taken ≡ (view putter.old.pass).taken ++ taken)
         × WorkBackwards cluster.now.levels (team.workers - started) taken more }
+    ensures began { HaveBegun cluster.now.levels cluster.now.limits []
+        callers.old.items callers.new.items }
     ensures channel { sends_on putter.new.sender ≡ sends_on putter.old.sender }
     ensures parts { result ≡ false → (view putter.new.pass).parts ≡ (view putter.old.pass).parts }
     ensures some_part { 0 < (view putter.new.pass).parts }
@@ -183,7 +187,8 @@ pub(crate) fn run_workers<'s, 'e: 's, R: Threads + Wait + Sync, G: Gate + Drop +
                 × ((view taker.pass).taken ≡ []) }
             ensures { (result.memory ≡ false → Works cluster.entry.now.levels
                 (view result.taker.pass).taken result.caller)
-                × (receives_on result.taker.receiver ≡ receives_on taker.receiver) }
+                × (receives_on result.taker.receiver ≡ receives_on taker.receiver)
+                × BeginsJobs cluster.entry.now.levels result.caller }
         { work(rt, alloc, cluster, caller, taker) },
     );
     match child {
@@ -208,8 +213,14 @@ pub(crate) fn run_workers<'s, 'e: 's, R: Threads + Wait + Sync, G: Gate + Drop +
             either(memory, mine)
         }
         Err(refused) => {
-            drop(refused);
-            stop(rt, putter, started);
+            stop(rt, putter, started + 1);
+            let WorkerResult {
+                caller,
+                taker,
+                memory: _,
+            } = (refused.value)();
+            putter.rejoin(taker);
+            callers.push_reserved(caller);
             true
         }
     }

@@ -7,6 +7,8 @@ use Rattle.std.proofs.Crossing.{send}
 use Rattle.crossbeam_channel.specs.Claims.{view}
 use Rattle.tq_cluster.specs.declared.workers.WorkerPromise.{WorkerPromise}
 use Rattle.tq_cluster.specs.Backwards.{Works}
+use Rattle.tq_cluster.specs.Clients.{BeginsJobs}
+use Rattle.tq_cluster.proofs.OfParts.{all_and}
 use Rattle.tq_cluster.proofs.Callers.{joined, one_worker_more}
 use Rattle.tq_cluster.proofs.Crossing.{caller_send, taker_send, cluster_sync, five_send}
 use Rattle.tq_cluster.proofs.workers.+run_workers.Goals as goal
@@ -36,6 +38,18 @@ returns-in-Ok-clause-ran g t c = λ none.
       joined c.args.callers.now.items c.args.callers.now.items c.run_workers-memory.new.callers.items before.0 (caller ∷ []) c.push_reserved.new.self.items refl before.2 c.push_reserved.ensures.items,
       joined (view c.args.putter.now.pass).taken (view c.seat_for_worker.new.putter.pass).taken (view c.run_workers-memory.new.putter.pass).taken before.1 mine (view c.rejoin.new.self.pass).taken c.in-Some.ensures.taken before.3 c.rejoin.ensures.taken,
       one_worker_more c.args.cluster.now.levels (workers - (started + 1)) (workers - started) before.1 mine before.0 caller more before.4 works,
+    )
+
+pub returns-in-Ok-clause-began : goal.returns-in-Ok-clause-began
+returns-in-Ok-clause-began g t c =
+    let before = c.run_workers-memory.ensures.began in
+    let caller = c.join-caller.result.caller in
+    let began =
+    subst (λ (n : ℕ). BeginsJobs n caller) c.levels.ensures
+    (subst (λ (p : WorkerPromise). BeginsJobs p.0 caller) c.in-Ok.ensures.ok c.join-caller.ensures.2) in (
+      before.0 ++ caller ∷ [],
+      joined c.args.callers.now.items c.args.callers.now.items c.run_workers-memory.new.callers.items before.0 (caller ∷ []) c.push_reserved.new.self.items refl before.1 c.push_reserved.ensures.items,
+      all_and (BeginsJobs c.args.cluster.now.levels) before.0 caller before.2 began,
     )
 
 pub returns-in-Ok-clause-channel : goal.returns-in-Ok-clause-channel

@@ -1,6 +1,7 @@
-use Rattle.std.proofs.Common.{◌++◌, ◌∙◌, ◌∷◌, [], Ok, ap}
+use Rattle.std.proofs.Common.{◌++◌, ◌∙◌, ◌∷◌, [], Ok, ap, sym, subst}
 use Rattle.tq_txn.specs.declared.asker.Exchange.TheVariants as exchanges
-use Rattle.tq_cluster.specs.Told.{CallerView}
+use Rattle.tq_cluster.specs.Told.{AreOfParts, CallerView}
+use Rattle.tq_cluster.proofs.OfParts.{desk_told}
 use Rattle.tq_cluster.proofs.cluster.Cluster.ask_desk.Goals as goal
 
 pub returns-clause-exchanges : goal.returns-clause-exchanges
@@ -8,3 +9,8 @@ returns-clause-exchanges g c =
     let entry = c.in_ok-entry.entry in
     c.in_ok-entry.ensures.exchanges
     ∙ ap (λ (v : CallerView). v.told ++ exchanges.Desk c.args.ask (Ok (record { number = entry.number; reply = entry.reply })) ∷ []) c.caller.view_is
+
+pub invariant_of-caller-2 : goal.invariant_of-caller-2
+invariant_of-caller-2 g c =
+    let asked = c.ask_part.ensures in
+    (c.caller.invariant.0, subst AreOfParts (sym asked.exchanges) (desk_told c.caller.inside.told.items c.args.ask c.ask_part.result c.caller.invariant.1 asked.same asked.reply asked.fault))

@@ -1,7 +1,9 @@
 use Rattle.std.proofs.Common.{◌<◌, ◌-◌, ◌∙◌, ◌++◌, ◌∷◌, [], Ok, ℕ, length, rules, set, ap, sym, subst, arith}
 use Rattle.tq_shape.specs.Tree.{IsServer}
 use Rattle.tq_shape.specs.declared.part.Part.TheVariants as parts
-use Rattle.tq_cluster.specs.Told.{CallerView}
+use Rattle.tq_cluster.specs.Told.{AreOfParts, CallerView}
+use Rattle.std.proofs.lemmas.List.{length-set}
+use Rattle.tq_cluster.proofs.OfParts.{server_told}
 use Rattle.tq_txn.specs.declared.asker.Exchange.TheVariants as exchanges
 use Rattle.tq_cluster.specs.Cluster.{ClusterView}
 use Rattle.tq_cluster.proofs.Names.{named_by}
@@ -21,7 +23,7 @@ saw g c =
     let of_tree = subst (λ (l : ℕ). IsServer l number) (c.requires.server ∙ sym c.requires.levels ∙ ap (λ (v : CallerView). v.levels) (sym c.caller.view_is)) c.number-number.ensures.within in
     let least = of_tree.0 in
     let most = of_tree.1 in
-    let count = c.caller.invariant in
+    let count = c.caller.invariant.0 in
     let less : number - 1 < length own.servers.items = omega arith in
     server_saw own.levels own.told.items own.servers.items own.desk.seen own.view.seen number (parts.Server c.args.server.number) c.index_mut-pass.result.now c.ask_part.new.pass c.args.caller.now c.caller.view_is less
     (ap parts.Server (sym c.number-number.ensures.value)) c.index_mut-pass.ensures.value
@@ -62,3 +64,13 @@ returns-clause-exchanges g c =
     let entry = c.in_ok-entry.entry in
     c.in_ok-entry.ensures.exchanges
     ∙ (λ i. (c.caller.view_is i).told ++ exchanges.Node (c.number-number.ensures.value i) c.args.ask (Ok (record { number = entry.number; reply = entry.reply })) ∷ [])
+
+pub invariant_of-caller-2 : goal.invariant_of-caller-2
+invariant_of-caller-2 g c =
+    let asked = c.ask_part.ensures in
+    let number = c.number-number.result in
+    let many = length-set c.caller.inside.servers.items (number - 1) c.ask_part.new.pass in
+    let before = c.caller.invariant.0 in (
+      omega (arith, many, before),
+      subst AreOfParts (sym asked.exchanges) (server_told number c.caller.inside.told.items c.args.ask c.ask_part.result c.caller.invariant.1 asked.same asked.reply asked.fault),
+    )

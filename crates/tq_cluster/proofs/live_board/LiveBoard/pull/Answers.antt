@@ -6,7 +6,7 @@ use Rattle.tq_cluster.specs.Told.{CallerView, seen_of}
 use Rattle.tq_cluster.specs.Pulls.{Continues}
 use Rattle.tq_cluster.proofs.Seen.{sees-on-after}
 use Rattle.tq_cluster.proofs.Pulled.{continues-grown, continues-after, seen-after}
-use Rattle.tq_cluster.proofs.Came.{before-desk, came, ended-after, goes-after, goes-grown, goes-same, rises}
+use Rattle.tq_cluster.proofs.Came.{before-desk, came, ended-after, ended-at, goes-after, goes-grown, goes-same, rises}
 use Rattle.tq_cluster.proofs.live_board.LiveBoard.pull.Goals as goal
 
 pub returns-clause-continues : goal.returns-clause-continues
@@ -57,14 +57,11 @@ returns-clause-fault g c =
 pub returns-in-Err-pull_part-clause-fault : goal.returns-in-Err-pull_part-clause-fault
 returns-in-Err-pull_part-clause-fault g c =
     let fault = c.in-Err-pull_part.ensures.fault in
-    record {
-      part = parts.Desk;
-      is_part = tt;
-      before = before-desk c.pull_servers.new.self c.pull_part.new.self c.pull_servers.new.caller c.pull_part.new.caller c.args.cluster.now.levels (seen_of c.pull_part.new.caller parts.Desk) c.in-Ok.ensures.seen c.in-Err-pull_part.ensures.err
-          c.pull_part.ensures.others (ap (λ (o : JournalsView). o.levels) c.in-Err-pull_part.ensures.err ∙ c.pull_servers.ensures.continues.levels ∙ c.requires.levels);
-      more = fault.0;
-      why = subst (λ (o : JournalsView). IsPullFault o parts.Desk fault.0 (seen_of c.pull_part.new.caller parts.Desk) c.in-Err-pull_part.fault) (sym c.in-Err-pull_part.ensures.err) fault.1;
-    }
+    let tree = ap (λ (o : JournalsView). o.levels) c.in-Err-pull_part.ensures.err ∙ c.pull_servers.ensures.continues.levels ∙ c.requires.levels in
+    ended-at c.pull_part.new.self c.pull_part.new.caller parts.Desk fault.0 c.in-Err-pull_part.fault tt
+    (before-desk c.pull_servers.new.self c.pull_part.new.self c.pull_servers.new.caller c.pull_part.new.caller c.args.cluster.now.levels (seen_of c.pull_part.new.caller parts.Desk) c.in-Ok.ensures.seen c.in-Err-pull_part.ensures.err
+    c.pull_part.ensures.others tree)
+    (subst (λ (o : JournalsView). IsPullFault o parts.Desk fault.0 (seen_of c.pull_part.new.caller parts.Desk) c.in-Err-pull_part.fault) (sym c.in-Err-pull_part.ensures.err) fault.1)
 
 pub returns-in-Err-pull_part-clause-saw : goal.returns-in-Err-pull_part-clause-saw
 returns-in-Err-pull_part-clause-saw g c =

@@ -12,7 +12,7 @@ server_pull g c =
     let own = c.caller.inside in
     let passes = own.servers.items in
     let number = c.in-Server.number in
-    let less = has_pass passes c.args.cluster.now.levels number c.args.part c.args.caller.now c.requires.part c.in-Server.is c.requires.caller (c.caller.invariant ∙ ap (λ (v : CallerView). 2 ^ v.levels) c.caller.view_is) in
+    let less = has_pass passes c.args.cluster.now.levels number c.args.part c.args.caller.now c.requires.part c.in-Server.is c.requires.caller (c.caller.invariant.0 ∙ ap (λ (v : CallerView). 2 ^ v.levels) c.caller.view_is) in
     let saw = server_saw own.levels own.told.items passes own.desk.seen own.view.seen number c.args.part c.index_mut-pass.result.now c.pull_server.new.pass c.args.caller.now c.caller.view_is less c.in-Server.is c.index_mut-pass.ensures.value in
     let after = seeing own.levels own.told.items (set passes (number - 1) c.pull_server.new.pass) own.desk.seen own.view.seen in
     part_pull c.pull_server.result c.args.part (parts.Server number) c.self.inside.prefixes c.args.self.now c.pull_server.new.prefixes c.args.caller.now after c.index_mut-pass.result.now.seen c.pull_server.new.pass.seen c.in-Server.is c.self.view_is saw c.pull_server.ensures

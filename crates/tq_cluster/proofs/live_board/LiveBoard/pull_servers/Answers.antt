@@ -7,7 +7,7 @@ use Rattle.tq_cluster.specs.Told.{CallerView, seen_of}
 use Rattle.tq_cluster.specs.Pulls.{Continues}
 use Rattle.tq_cluster.proofs.Seen.{sees-on-same, sees-on-after}
 use Rattle.tq_cluster.proofs.Pulled.{continues-same, continues-grown, servers-next}
-use Rattle.tq_cluster.proofs.Came.{before-server, came, goes-grown, goes-same, rises, saw-same}
+use Rattle.tq_cluster.proofs.Came.{before-server, came, ended-at, goes-grown, goes-same, rises, saw-same}
 use Rattle.tq_cluster.proofs.live_board.LiveBoard.pull_servers.Goals as goal
 
 pub loop-place-init : goal.loop-place-init
@@ -52,10 +52,7 @@ returns-in-Err-clause-fault g c =
     let end = c.servers-place-end.ensures.value in
     let power = ap (λ (l : ℕ). 2 ^ l) c.levels.ensures in
     let tree = ap (λ (o : JournalsView). o.levels) c.in-Err.ensures.err ∙ c.loop-place.invariant.continues.levels ∙ c.requires.levels in
-    record {
-      part = place;
-      is_part = subst (λ (l : ℕ). IsServer l (c.loop-place.place + 1)) (sym tree) (omega arith, omega (arith, less, end, power));
-      before = before-server c.loop-place.self c.pull_part.new.self c.loop-place.caller c.pull_part.new.caller c.loop-place.place (seen_of c.pull_part.new.caller place) c.loop-place.invariant.seen c.in-Err.ensures.err c.pull_part.ensures.others;
-      more = fault.0;
-      why = subst (λ (o : JournalsView). IsPullFault o place fault.0 (seen_of c.pull_part.new.caller place) c.in-Err.fault) (sym c.in-Err.ensures.err) fault.1;
-    }
+    ended-at c.pull_part.new.self c.pull_part.new.caller place fault.0 c.in-Err.fault
+    (subst (λ (l : ℕ). IsServer l (c.loop-place.place + 1)) (sym tree) (omega arith, omega (arith, less, end, power)))
+    (before-server c.loop-place.self c.pull_part.new.self c.loop-place.caller c.pull_part.new.caller c.loop-place.place (seen_of c.pull_part.new.caller place) c.loop-place.invariant.seen c.in-Err.ensures.err c.pull_part.ensures.others)
+    (subst (λ (o : JournalsView). IsPullFault o place fault.0 (seen_of c.pull_part.new.caller place) c.in-Err.fault) (sym c.in-Err.ensures.err) fault.1)
