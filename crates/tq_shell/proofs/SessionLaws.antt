@@ -107,7 +107,7 @@ module _ (levels : ℕ) (ended : Bool) (given given_now taken taken_now : Option
         (
           drop count text,
           append_assoc said (take count text) (drop count text) ∙ ap (λ last. said ++ last) (take-append-drop count text ∙ is) ∙ text_goes_on []
-          ∙ sym (ap (λ end. answered_text levels end (going.bytes ++ [])) reached),
+              ∙ sym (ap (λ end. answered_text levels end (going.bytes ++ [])) reached),
         ),
       )
 
@@ -129,7 +129,7 @@ module _ (levels : ℕ) (ended : Bool) (given given_now taken taken_now : Option
         Appends-then given given_now given_after going.bytes (front ++ behind) going.read read,
         Appends-then taken taken_now taken_after said text going.wrote wrote,
         prefix_answered ended (front ++ behind) (said ++ text) (rest ++ later)
-        (append_assoc said text (rest ++ later) ∙ ap (λ more. said ++ more) (sym (append_assoc text rest later) ∙ sym split)),
+            (append_assoc said text (rest ++ later) ∙ ap (λ more. said ++ more) (sym (append_assoc text rest later) ∙ sym split)),
       )
 
   -- some first lines of what was read are answered
