@@ -87,7 +87,10 @@ fn tell_reply(rt: &HostRuntime, reply: &Reply) -> Result<(), Wrong> {
     let _printed = match reply {
         Reply::Desk(DeskReply::Txn(txn)) => println!(rt; "txn {txn}"),
         Reply::Node(NodeReply::Granted { version, content }) => {
-            println!(rt; "granted version {version} length {}", content.as_bytes().len())
+            println!(rt;
+                "granted version {version} length {}",
+                content.as_bytes().len()
+            )
         }
         _ => return Err(Wrong::Otherwise),
     };

@@ -60,8 +60,7 @@ fn are_of_letters(records: &[Record], letters: &[u8]) -> bool {
 /// Whether server 1 gives all replies, and has written records of these letters then.
 fn records(alloc: Global, entries: &[NodeEntry], letters: &[u8]) -> bool {
     let mut node = Node::new(alloc, Levels::default(), Levels::default().root());
-    let records =
-        answers_all(alloc, &mut node, entries) && are_of_letters(node.stable(), letters);
+    let records = answers_all(alloc, &mut node, entries) && are_of_letters(node.stable(), letters);
     forget(node);
     records
 }
