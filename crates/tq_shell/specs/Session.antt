@@ -1,5 +1,5 @@
 -- The text that answers the lines of bytes.
-use Rattle.std.specs.Prelude.{ℕ, List, [], ◌∷◌, ◌++◌}
+use Rattle.std.specs.Prelude.{ℕ, Bool, cond, List, [], ◌∷◌, ◌++◌}
 use Rattle.tq_syntax.specs.Line.{line_of}
 use Rattle.tq_syntax.specs.Text.{lines_of, whole_lines}
 use Rattle.tq_interpreter.specs.Answer.{World, opening, answer}
@@ -17,3 +17,7 @@ text_of levels bytes = lines_text (opening levels) (lines_of bytes)
 -- the text of the lines that a line feed ends
 abbrev pub whole_text : ℕ → List ℕ → List ℕ
 whole_text levels bytes = lines_text (opening levels) (whole_lines bytes)
+
+-- the text of the lines that are answered: what no line feed ends is a line once the end was reached
+abbrev pub answered_text : ℕ → Bool → List ℕ → List ℕ
+answered_text levels ended bytes = cond ended (text_of levels bytes) (whole_text levels bytes)

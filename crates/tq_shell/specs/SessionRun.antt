@@ -1,20 +1,22 @@
 -- What a run has written for the bytes that it has read, by the way that it ended.
-use Rattle.std.specs.Prelude.{◌≡◌, ℕ, ◌+◌, ◌<◌, ◌≤◌, List, ◌++◌, Option, Result, Ok, Err, length, take}
+use Rattle.std.specs.Prelude.{◌≡◌, ℕ, Bool, ◌+◌, ◌<◌, ◌≤◌, List, ◌++◌, Option, Result, Ok, Err, length, take}
 use Rattle.std.specs.Io.KnownBytes.{Appends}
-use Rattle.tq_shell.specs.Session.{text_of, whole_text}
+use Rattle.tq_shell.specs.Session.{text_of, whole_text, answered_text}
 use Rattle.tq_shell.specs.Stream.{Received, nothing_received, received_all, answers_to}
 use Rattle.tq_devices.specs.declared.fault.RunFault.{RunFault}
 use Rattle.tq_devices.specs.declared.fault.RunFault.TheVariants.{Memory, Read, Write, TooLong}
 
--- levels, bytes read, text written
-abbrev pub IsRunText : {T : Type 0} → Result T RunFault → ℕ → List ℕ → List ℕ → Type 0
-IsRunText (Ok done) levels bytes text = (length bytes ≤ 16777216) × (text ≡ text_of levels bytes)
+-- levels, whether the end was reached, bytes read, text written
+abbrev pub IsRunText : {T : Type 0} → Result T RunFault → ℕ → Bool → List ℕ → List ℕ → Type 0
+IsRunText (Ok done) levels ended bytes text = (length bytes ≤ 16777216) × (text ≡ text_of levels bytes)
 -- the text of some first lines, each whole
-IsRunText (Err Memory) levels bytes text = (count : ℕ) × (text ≡ whole_text levels (take count bytes))
-IsRunText (Err Read) levels bytes text = text ≡ whole_text levels bytes
--- a prefix of the text
-IsRunText (Err Write) levels bytes text = (rest : List ℕ) × (text ++ rest ≡ text_of levels bytes)
-IsRunText (Err TooLong) levels bytes text = (16777216 < length bytes) × (text ≡ whole_text levels (take 16777216 bytes))
+IsRunText (Err Memory) levels ended bytes text = (count : ℕ) × (text ≡ whole_text levels (take count bytes))
+IsRunText (Err Read) levels ended bytes text = text ≡ whole_text levels bytes
+-- a prefix of the text of the lines that are answered
+IsRunText (Err Write) levels ended bytes text =
+    (rest : List ℕ) × (text ++ rest ≡ answered_text levels ended bytes)
+IsRunText (Err TooLong) levels ended bytes text =
+    (16777216 < length bytes) × (text ≡ whole_text levels (take 16777216 bytes))
 
 -- where a piece is answered in part: its front is received, what that says is written, and the rest is left
 pub record IsAnswering (start : Received) (piece : List ℕ) (taken taken_now : Option (List ℕ)) (received : Received) (left : List ℕ) : Type 0 where

@@ -30,7 +30,7 @@ pub fn run<R: Source, W: Sink>(
     ensures text { (bytes : List ℕ) × (text : List ℕ)
         × Appends (R.given reader.old) (R.given reader.new) bytes
         × Appends (W.taken writer.old) (W.taken writer.new) text
-        × IsRunText result levels bytes text }
+        × IsRunText result levels (R.is_ended reader.new) bytes text }
     ensures end { OnOk result (IsTrue (R.is_ended reader.new)) }
     ensures counts { IsRunCount result
         (R.failed reader.old) (R.failed reader.new) (W.failed writer.old) (W.failed writer.new) }
@@ -56,7 +56,7 @@ fn answer_pieces<R: Source, W: Sink>(
     ensures text { (bytes : List ℕ) × (text : List ℕ)
         × Appends (R.given reader.old) (R.given reader.new) bytes
         × Appends (W.taken writer.old) (W.taken writer.new) text
-        × IsRunText result levels bytes text }
+        × IsRunText result levels (R.is_ended reader.new) bytes text }
     ensures end { OnOk result (IsTrue (R.is_ended reader.new)) }
     ensures counts { IsRunCount result
         (R.failed reader.old) (R.failed reader.new) (W.failed writer.old) (W.failed writer.new) }

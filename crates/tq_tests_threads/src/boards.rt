@@ -218,19 +218,35 @@ fn follows<R: Wait + Abort>(
     caller
 }
 
+/// Asks the server, the desk and the view once.
+fn ask_parts<R: Wait + Abort>(
+    rt: &R,
+    alloc: Global,
+    cluster: &Cluster<OpenGate>,
+    caller: &mut Caller,
+    of_server: NodeAsk,
+    of_view: ViewAsk,
+)
+    requires one { cluster.now.levels ≡ 1 }
+    requires levels { caller.old.levels ≡ cluster.now.levels }
+    ensures { caller.new.levels ≡ caller.old.levels }
+{
+    let server = Levels::new(1).unwrap().root();
+    let told = cluster.ask_node(rt, alloc, caller, server, of_server);
+    assert!(rt; told.is_ok());
+    forget(told);
+    let told = cluster.ask_desk(rt, alloc, caller, DeskAsk::Begin);
+    assert!(rt; told.is_ok());
+    forget(told);
+    ask(rt, alloc, cluster, caller, of_view);
+}
+
 /// Asks each part once more, by a caller who is not given to the close.
 fn ask_each<R: Wait + Abort>(rt: &R, alloc: Global, cluster: &Cluster<OpenGate>)
     requires { cluster.now.levels ≡ 1 }
 {
     let mut caller = cluster.caller(alloc).expect(rt, "memory");
-    let server = Levels::new(1).unwrap().root();
-    let told = cluster.ask_node(rt, alloc, &mut caller, server, NodeAsk::Crash);
-    assert!(rt; told.is_ok());
-    forget(told);
-    let told = cluster.ask_desk(rt, alloc, &mut caller, DeskAsk::Begin);
-    assert!(rt; told.is_ok());
-    forget(told);
-    ask(rt, alloc, cluster, &mut caller, CHOICE);
+    ask_parts(rt, alloc, cluster, &mut caller, NodeAsk::Crash, CHOICE);
     forget(caller);
 }
 
@@ -318,4 +334,60 @@ fn a_board_keeps_to_its_cluster(rt: HostRuntime) {
     assert!(rt; astray(&rt, alloc, mine, callers, &board).is_none());
     assert!(rt; astray(&rt, alloc, other, Vec::new(alloc), &board) == Some(Part::Server(1)));
     forget(board);
+}
+
+// ---- a pull that fails at the view
+
+/// Each part of the cluster is asked once, and the board pulls it.
+fn pull_once<R: Wait + Abort>(
+    rt: &R,
+    alloc: Global,
+    cluster: &Cluster<OpenGate>,
+    board: &mut LiveBoard,
+)
+    requires one { cluster.now.levels ≡ 1 }
+    requires levels { board.old.levels ≡ cluster.now.levels }
+    requires limits { board.old.limits ≡ cluster.now.limits }
+    ensures levels { board.new.levels ≡ board.old.levels }
+    ensures limits { board.new.limits ≡ board.old.limits }
+{
+    ask_each(rt, alloc, cluster);
+    let mut caller = cluster.caller(alloc).expect(rt, "memory");
+    let pulled = board.pull(rt, alloc, cluster, &mut caller);
+    assert!(rt; pulled.is_ok());
+    forget(pulled);
+    forget(caller);
+}
+
+/// A caller that asked each part twice, and the view at another cost: its server and its desk go on from those of a cluster
+/// that was asked once, and its view does not.
+fn asked_twice<R: Wait + Abort>(rt: &R, alloc: Global, other: &Cluster<OpenGate>) -> Caller
+    requires { other.now.levels ≡ 1 }
+    ensures { result.levels ≡ other.now.levels }
+{
+    let mut caller = other.caller(alloc).expect(rt, "memory");
+    ask_parts(rt, alloc, other, &mut caller, NodeAsk::Crash, COST);
+    ask_parts(rt, alloc, other, &mut caller, NodeAsk::Return, CHOICE);
+    caller
+}
+
+/// The new entries of the server and of the desk stay on the board, though those of the view are foreign.
+#[test]
+fn a_pull_keeps_the_parts_before_its_fault(rt: HostRuntime) {
+    let alloc = rt.alloc();
+    let levels = Levels::new(1).unwrap();
+    let mut board = LiveBoard::new(alloc, levels, Limits::full()).expect(&rt, "memory");
+    let mine = cluster(&rt, alloc);
+    pull_once(&rt, alloc, &mine, &mut board);
+    assert!(rt; pulled_by(&rt, alloc, &board).counts == [1, 1, 1]);
+    let other = cluster(&rt, alloc);
+    let mut caller = asked_twice(&rt, alloc, &other);
+    let pulled = board.pull(&rt, alloc, &other, &mut caller);
+    assert!(rt; is_foreign(&pulled));
+    assert!(rt; pulled_by(&rt, alloc, &board).counts == [2, 2, 1]);
+    forget(pulled);
+    forget(caller);
+    forget(board);
+    forget(other);
+    forget(mine);
 }
