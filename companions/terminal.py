@@ -9,6 +9,7 @@ import termios
 import time
 
 PATIENCE = 60
+PROMPT = b"> "
 
 
 def resize(descriptor, rows, columns):
@@ -30,18 +31,32 @@ class Typist:
         how = dict(stdin=self.far, stdout=self.far, stderr=self.far, preexec_fn=own_terminal, env=os.environ | {"TERM": "xterm", "INPUTRC": os.devnull})
         self.running, self.seen, self.all = subprocess.Popen(words, **how), b"", b""
 
-    def awaits(self, *texts):
-        """Whether these texts come, one behind the other; what stands behind them is kept for later."""
-        end = time.monotonic() + PATIENCE
+    def awaits(self, *texts, patience=PATIENCE):
+        """Whether these texts come, one behind the other; what stands behind them is kept for later. Behind a last prompt nothing more may come for a while:
+        answers that are shown again have one too."""
+        end = time.monotonic() + patience
         for text in texts:
             while text not in self.seen:
                 if time.monotonic() > end:
                     return False
-                if select.select([self.near], [], [], 1)[0]:
-                    self.seen += (came := os.read(self.near, 65_536))
-                    self.all += came
+                self.takes(1)
             self.seen = self.seen.split(text, 1)[1]
+        while texts[-1] == PROMPT and (self.takes(0.3) or self.seen and not self.seen.endswith(PROMPT)):
+            if time.monotonic() > end:
+                return False
         return True
+
+    def takes(self, seconds):
+        """Takes what comes within so many seconds, and returns whether anything did."""
+        if not select.select([self.near], [], [], seconds)[0]:
+            return False
+        self.seen += (came := os.read(self.near, 65_536))
+        self.all += came
+        return True
+
+    def leaves(self):
+        """Whether the program ends at Ctrl-D, which it may miss where it does not read yet."""
+        return any(self.types(b"\x04") or self.awaits(b"\x1b[?1049l", patience=5) for _ in range(PATIENCE // 5))
 
     def types(self, text):
         os.write(self.near, text)
@@ -80,14 +95,14 @@ def session(live, tq, folder):
         ("a page", lambda: typist.types(b":log\r") or typist.awaits(b"up 1", b"b back, q ends ")),
         ("the page before", lambda: typist.types(b"b\r") or typist.awaits(b"> refresh", b"b back, q ends ")),
         ("the end of pages", lambda: typist.types(b"q\r") or typist.awaits(b"levels 2", b"> ")),
-        ("Ctrl-D", lambda: typist.types(b"\x04") or typist.awaits(b"\x1b[?1049l")),
+        ("Ctrl-D", typist.leaves),
     ]
     yield from typed(typist, steps)
     typist = Typist([live, "--levels", "2", "--program", tq, "--session", f"{folder}/typed"])
     steps = [
         ("the lines of before", lambda: typist.awaits(b"2 of 3 up", b"lines taken", b"> ")),
         ("history", lambda: typist.types(b"\x1b[A") or typist.awaits(b"up 1")),
-        ("Ctrl-D", lambda: typist.types(b"\x15\x04") or typist.awaits(b"\x1b[?1049l")),
+        ("Ctrl-D", lambda: typist.types(b"\x15") or typist.leaves()),
     ]
     yield from typed(typist, steps)
 
