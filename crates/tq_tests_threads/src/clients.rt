@@ -55,7 +55,8 @@ fn ran<R: Threads + Wait + Abort + Sync, G: Gate + Drop + Sync>(
         memory,
         whole,
     } = cluster.run_clients(rt, alloc, scripts, workers, rounds);
-    assert!(rt; whole && !memory);
+    assert!(rt; whole);
+    assert!(rt; !memory);
     assert!(rt; callers.len() == clients + workers as usize + 1);
     callers
 }
