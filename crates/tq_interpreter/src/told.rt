@@ -1,3 +1,5 @@
+//! What contracts see of what was told.
+
 ghost use Rattle.std.specs.Prelude.{◌≡◌, ◌++◌, ◌∷◌, [], Ok, Err};
 ghost use Rattle.std.specs.List.{flat_map};
 ghost use Rattle.tq_txn.specs.declared.asker.Exchange.TheVariants as exchanges;

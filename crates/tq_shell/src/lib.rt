@@ -2,9 +2,6 @@
 //! journals of all parts; the audit of a journal file, whether one sequential run explains it; its upgrade to the format that is
 //! written now; and, handed on, the words of the command line and the devices that they read and write.
 //!
-//! Files: `session.rt` `run` over `receiver.rt`, pieces of input to lines; `threading.rt` over `reading.rt`, `running.rt`,
-//! `outcome.rt` client scripts in threads; `auditing.rt` over `reading.rt`, `judging.rt`, `audit_finding.rt` the audit; `upgrading.rt`
-//! the upgrade; `line.rt` a line that is written.
 //! Definitions: `specs/Session`, `SessionRun`, and `Stream`, the code's own word; `Running`, `Outcome`, `Threads`; `Verdicts`,
 //! `Texts`, `Report`, `Audit`, `Upgrade`, `Reading`.
 #![tactic(auto)]

@@ -1,9 +1,6 @@
 //! The journals of a system: what each server, the desk and the view were asked and what they answered; and the tables
 //! that say how the system stands after them.
 //!
-//! Files: `journals.rt` the journals of all parts; `parts.rt`, `replay.rt` the parts after them; `tables.rt` over
-//! `live_tables.rt` the tables; `tabled_journals.rt` tables beside bare journals; `file_table.rt` the rows of files;
-//! `holders.rt` the servers that may have a copy of a file with no row; one file for each other list of rows.
 //! Definitions: `specs/Journals`, `Parts`, `Rows`, `Tables`; `Tabled`, `Told`, `Counted`, `Files`, `NamesApart`,
 //! `DeskStates` are the code's own words.
 #![tactic(auto)]

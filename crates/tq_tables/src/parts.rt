@@ -1,3 +1,5 @@
+//! All parts of a system.
+
 ghost use Rattle.std.specs.Prelude.{◌≡◌, ◌+◌, ◌-◌, ◌<◌, ◌≤◌, ◌^◌, IfOk, OnOk, OnErr, length, slice_index_or};
 ghost use Rattle.tq_desk.specs.DeskChanges.{DeskFits};
 ghost use Rattle.tq_tables.specs.Asked.{view_replies};

@@ -1,3 +1,5 @@
+//! An entry that is reserved.
+
 ghost use Rattle.std.specs.Prelude.{◌≡◌, IfOk};
 
 use crate::PartEntry;

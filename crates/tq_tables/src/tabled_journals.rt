@@ -1,3 +1,5 @@
+//! Tables beside bare journals.
+
 ghost use Rattle.std.specs.Prelude.{◌≡◌, ◌-◌, ◌^◌, [], replicate, IfOk};
 ghost use Rattle.tq_tables.specs.Journals.{AreJournals, entries_in, no_entries};
 ghost use Rattle.tq_tables.specs.Tabled.{journals_of};

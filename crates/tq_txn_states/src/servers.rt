@@ -1,3 +1,5 @@
+//! The servers that a transaction has noted.
+
 ghost use Rattle.std.specs.Prelude.{◌≡◌, ◌==◌, ◌+◌, ◌<◌, ◌≤◌, [], true, false, length, nat_lt, vec_capacity, vec_len, IfOk, IsTrue, OnOk};
 ghost use Rattle.std.specs.List.{insert, list_all, list_any};
 ghost use Rattle.tq_coterie.specs.Coterie.{has, is_quorum, numbers_of};
