@@ -164,14 +164,14 @@ fn lock_next<A: Asker>(
     ensures ask { IfOk result (λ it. it ≡ ask) }
     ensures tree { A.levels asker.new ≡ A.levels asker.old }
 {
-    open.room_to_touch(server)?;
+    open.room_to_touch()?;
     grants.reserve(1)?;
     let locked = match lock_at(asker, alloc, open.txn(), lock, server, ask) {
         Ok(locked) => locked,
         Err(fault) => return Err(fault),
     };
     let (grant, ask) = locked;
-    open.touch(alloc, server)?;
+    open.touch_near(server, grants.len())?;
     grants.push_reserved(grant);
     Ok(ask)
 }
