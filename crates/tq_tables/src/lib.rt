@@ -1,8 +1,8 @@
 //! The journals of a system: what each server, the desk and the view were asked and what they answered; and the tables
 //! that say how the system stands after them.
 //!
-//! Files: `journals.rt` the journals of all parts; `parts.rt`, `replay.rt` the parts after them; `tables.rt` over
-//! `live_tables.rt` the tables; `tabled_journals.rt` tables beside bare journals; `file_table.rt` the rows of files;
+//! Files: `journals.rt` the journals of all parts; `parts.rt`, `replay.rt` the parts after them; `tables.rt` the tables over
+//! `followed.rt`, what they follow; `tabled_journals.rt` tables beside bare journals; `file_table.rt` the rows of files;
 //! `holders.rt` the servers that may have a copy of a file with no row; one file for each other list of rows.
 //! Definitions: `specs/Journals`, `Parts`, `Rows`, `Tables`; `Tabled`, `Told`, `Counted`, `Files`, `NamesApart`,
 //! `DeskStates` are the code's own words.
@@ -12,11 +12,11 @@ mod file_names;
 mod file_row;
 mod file_rows;
 mod file_table;
+mod followed;
 mod holders;
 mod intent_row;
 mod intent_rows;
 mod journals;
-mod live_tables;
 mod lock_row;
 mod lock_rows;
 mod part_entry;

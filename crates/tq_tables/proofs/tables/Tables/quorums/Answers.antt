@@ -4,7 +4,7 @@ use Rattle.tq_tables.specs.Parts.{PartsView}
 use Rattle.tq_tables.specs.declared.quorum_row.QuorumRow.{QuorumRow}
 use Rattle.tq_tables.specs.Tables.{TablesView}
 use Rattle.tq_tables.proofs.Whole.{length-quorum_rows}
-use Rattle.tq_tables.proofs.live_tables.LiveTables.quorums.Goals as goal
+use Rattle.tq_tables.proofs.tables.Tables.quorums.Goals as goal
 
 pub returns-clause-one_each : goal.returns-clause-one_each
 returns-clause-one_each c =

@@ -4,11 +4,11 @@ use Rattle.tq_tables.specs.Parts.{PartsView}
 use Rattle.tq_tables.specs.Rows.{least_in, least_row}
 use Rattle.tq_tables.specs.Tables.{TablesView}
 use Rattle.tq_tables.proofs.Whole.{least_in_rows}
-use Rattle.tq_tables.proofs.live_tables.LiveTables.least_into.Goals as goal
+use Rattle.tq_tables.proofs.tables.Tables.least_into.Goals as goal
 
 pub returns-clause-least : goal.returns-clause-least
 returns-clause-least c =
-    let view = c.self.inside.parts.value.view in
+    let view = c.self.inside.followed.parts.value.view in
     let tree : c.tree.result.now ≡ view = c.tree.ensures ∙ c.view.ensures ∙ ap (λ (p : PartsView). p.view) c.deref.ensures in
     let levels : c.args.server.levels ≡ view.levels = c.requires.server ∙ ap (λ (t : TablesView). t.levels) (sym c.self.view_is) in
     let within = c.number-within.ensures.within in
