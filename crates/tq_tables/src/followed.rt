@@ -1,9 +1,9 @@
 //! What tables follow.
 ghost use Rattle.std.specs.Prelude.{◌≡◌, IfOk};
 
-use crate::Parts;
 use crate::file_table::FileTable;
 use crate::holders::Holders;
+use crate::parts::Parts;
 use std::alloc::Global;
 use tq_shape::Memory;
 

@@ -9,7 +9,7 @@ ghost use Rattle.tq_tables.specs.Files as spec;
 ghost use Rattle.tq_tables.specs.Reserved.{IsReserve, ready_entry, reserved_entry};
 ghost use Rattle.tq_tables.specs.Tables.{TablesView};
 
-use crate::file_rows::{file_rows, rows_written};
+use crate::file_rows::rows_written;
 use crate::file_table::FileTable;
 use crate::followed::Followed;
 use crate::holders::Holders;
@@ -19,14 +19,15 @@ use crate::quorum_rows::{least_into, quorum_rows};
 use crate::ready::Ready;
 use crate::ready_entry::ReadyEntry;
 use crate::replies::{Replies, twice};
-use crate::{DeskEntry, FileRow, IntentRow, Journals, LockRow, PartEntry, Parts, QuorumRow};
+use crate::parts::Parts;
+use crate::{FileRow, IntentRow, Journals, LockRow, PartEntry, QuorumRow};
 use std::alloc::Global;
 use std::marker::Model;
 use tq_asks::{NodeAsk, NodeReply};
 use tq_desk::{Desk, DeskAsk, DeskReply, Op};
 use tq_live::{Least, Purpose, View, ViewAsk, ViewReply};
 use tq_node::{Node, Telling};
-use tq_shape::{Levels, Memory, Part, ServerId};
+use tq_shape::{Levels, Limits, Memory, Part, ServerId};
 
 /// The servers, the desk and the view that the tables follow, and rows that say how these stand: the least quorum of
 /// each subtree, the files that commits wrote, the locks that are held, and the votes that are open.
@@ -73,33 +74,20 @@ impl Model for Tables {
 
 impl Tables {
     ghost use Rattle.tq_tables.specs.NextEntry.{FollowsEntry, IsNextEntry};
-    ghost use Rattle.tq_tables.specs.Parts.{AreLegal, StandsAfter};
+    ghost use Rattle.tq_tables.specs.Journals.{no_entries};
+    ghost use Rattle.tq_tables.specs.Parts.{AreLegal};
     ghost use Rattle.tq_tables.specs.Reserved.{AreFollowed, IsReadyFor, LeadsTo, ask_of, tables_in, unready};
     ghost use Rattle.tq_tables.specs.Rows.{row_if, least_in};
-    ghost use Rattle.tq_tables.specs.Tables.{tables_of, tables_over};
+    ghost use Rattle.tq_tables.specs.Tables.{tables_of};
 
-    /// The tables of these journals, which are legal: each reply is the one that its part gives there.
-    pub fn of(alloc: Global, journals: &Journals) -> Result<Tables, Memory>
-        requires { AreLegal journals.now }
-        ensures { IfOk result (λ tables. tables ≡ tables_of journals.now) }
+    /// The tables of a system that was asked nothing.
+    pub fn new(alloc: Global, levels: Levels, limits: Limits) -> Result<Tables, Memory>
+        ensures { IfOk result (λ tables. tables ≡ tables_of (no_entries levels limits)) }
     {
-        let parts = Parts::replay(alloc, journals)?;
-        let tables = Tables::over(alloc, parts, journals.desk())?;
-        Ok(tables)
-    }
-
-    /// The tables over these parts, of which the desk stands as a legal journal with these entries leaves it. The rows of
-    /// files, locks and intentions are of the servers alone.
-    pub fn over(alloc: Global, parts: Parts, entries: &[DeskEntry]) -> Result<Tables, Memory>
-        requires { StandsAfter parts.desk entries.now }
-        ensures { IfOk result (λ tables. tables ≡ tables_over parts entries.now) }
-    {
+        let parts = Parts::new(alloc, levels, limits)?;
+        let holders = Holders::new(alloc, levels, parts.nodes())?;
         let parts = Box::new(alloc, parts)?;
-        let levels = parts.levels();
-        let rows = file_rows(alloc, levels, parts.nodes(), entries)?;
-        let files = FileTable::of(alloc, levels, rows)?;
-        let files = Box::new(alloc, files)?;
-        let holders = Holders::of(alloc, levels, parts.nodes())?;
+        let files = Box::new(alloc, FileTable::new(alloc, levels))?;
         let holders = Box::new(alloc, holders)?;
         Ok(Tables {
             followed: Followed {
@@ -109,6 +97,32 @@ impl Tables {
             },
             ready: None,
         })
+    }
+
+    /// The tables of these journals, which are legal: each reply is the one that its part gives there. Each part is asked
+    /// again what its journal has, the desk before the servers, so that no commit looks at a server's copies.
+    pub fn of(alloc: Global, journals: &Journals) -> Result<Tables, Memory>
+        requires { AreLegal journals.now }
+        ensures { IfOk result (λ tables. tables ≡ tables_of journals.now) }
+    {
+        let servers = journals.servers();
+        let mut tables = Tables::new(alloc, journals.levels(), journals.limits())?;
+        for view_entry in journals.view() {
+            tables.follow_view(alloc, &view_entry.ask)?;
+        }
+        for desk_entry in journals.desk() {
+            tables.ask_desk(alloc, &desk_entry.ask)?;
+        }
+        let mut server = 0;
+        for entries in servers {
+            server += 1;
+            let mut number = 0;
+            for entry in entries.as_slice() {
+                number += 1;
+                tables.ask_node(alloc, server, number, &entry.ask)?;
+            }
+        }
+        Ok(tables)
     }
 
     /// Equal tables, with memory of their own: what is reserved is reserved there too.
@@ -254,11 +268,9 @@ impl Tables {
         number: u64,
         entry: &PartEntry<'_>,
     ) -> Result<(), Memory>
-        requires next { IsNextEntry self.old part number entry.now }
-        requires none { self.old.ready ≡ None }
+        requires { IsNextEntry self.old part number entry.now }
         ensures noted { OnOk result (LeadsTo self.old self.new part (ask_of entry.now)) }
         ensures unchanged { OnErr result (self.new ≡ self.old) }
-        ensures none { self.new.ready ≡ None }
     {
         match part {
             Part::Server(server) => match entry {
@@ -274,14 +286,22 @@ impl Tables {
                 PartEntry::Server(_) | PartEntry::View(_) => unreachable!(),
             },
             Part::View => match entry {
-                PartEntry::View(entry) => {
-                    if !changes_nothing(&entry.ask) {
-                        self.ask_view(alloc, &entry.ask)?;
-                    }
-                }
+                PartEntry::View(entry) => self.follow_view(alloc, &entry.ask)?,
                 PartEntry::Server(_) | PartEntry::Desk(_) => unreachable!(),
             },
         }
+        Ok(())
+    }
+
+    /// The same of an ask of the view.
+    fn follow_view(&mut self, alloc: Global, ask: &ViewAsk) -> Result<(), Memory>
+        ensures noted { OnOk result (FollowsView self.old self.new ask.now) }
+        ensures unchanged { OnErr result (self.new ≡ self.old) }
+    {
+        if changes_nothing(ask) {
+            return Ok(());
+        }
+        self.ask_view(alloc, ask)?;
         Ok(())
     }
 
