@@ -37,20 +37,20 @@ answered_by line f old new result after replayed_old replayed_new levels follows
     (ap (λ (r : Ran LineAnswer). r.end.text) (sym ran.1), ap (λ (r : Ran LineAnswer). (answer_of_run r).after) (sym ran.1))
 
 -- a line of a transaction that is kept, answered so
-pub txn_answered : (w : World) (number place : ℕ) (line : TxnLine) (kept new : TxnSlot) (after : JournalsView) (before text : List ℕ) → number ≡ place + 1 → place < length w.known.txns → kept ≡ get_or w.known.txns place kept
+pub txn_answered : (w : World) (number place : ℕ) (line : TxnLine) (kept new : TxnSlot) (after : JournalsView) (before text : List ℕ) → number ≡ w.known.others + place + 1 → place < length w.known.txns → kept ≡ get_or w.known.txns place kept
     → IsAnswered (line_asked w.known.levels line number kept) (got_to w.journals before) (got_to after text) new
     → (text ≡ before ++ (answer w (shell_lines.Txn number line)).text)
-    × (record { journals = after; known = record { levels = w.known.levels; limits = w.known.limits; txns = slice_set w.known.txns place new } } ≡ (answer w (shell_lines.Txn number line)).after)
+    × (record { journals = after; known = record { levels = w.known.levels; limits = w.known.limits; others = w.known.others; txns = slice_set w.known.txns place new } } ≡ (answer w (shell_lines.Txn number line)).after)
 txn_answered w number place line kept new after before text is less here said =
-    let minus : number - 1 ≡ place = omega (arith, is) in
-    let some : 0 < number = omega (arith, is) in
-    let item = item_of w.known.txns number place kept some minus (slice_get_read w.known.txns (length w.known.txns) place kept refl less here) in
+    let minus : number - w.known.others - 1 ≡ place = omega (arith, is) in
+    let some : 0 < number - w.known.others = omega (arith, is) in
+    let item = item_of w.known.txns (number - w.known.others) place kept some minus (slice_get_read w.known.txns (length w.known.txns) place kept refl less here) in
     let tree = line_asked w.known.levels line number kept in
     let f : TxnAnswer → LineAnswer = λ end. record { text = printed_line end.text; known = with_kept w.known number end.kept } in
     let same : answer w (shell_lines.Txn number line) ≡ answer_of_run (ran_as f (run_line w.journals tree)) =
     ap (λ o. answer_of_run (run_line w.journals (of_txn w.known number o (line_asked w.known.levels line)))) item ∙ ap answer_of_run (then_ran tree f w.journals) in
-    let end : record { journals = after; known = record { levels = w.known.levels; limits = w.known.limits; txns = slice_set w.known.txns place new } } ≡ (answer_of_run (ran_as f (run_line w.journals tree))).after =
-    λ i. record { journals = said.journals i; known = record { levels = w.known.levels; limits = w.known.limits; txns = slice_set w.known.txns (sym minus i) (said.kept i) } } in
+    let end : record { journals = after; known = record { levels = w.known.levels; limits = w.known.limits; others = w.known.others; txns = slice_set w.known.txns place new } } ≡ (answer_of_run (ran_as f (run_line w.journals tree))).after =
+    λ i. record { journals = said.journals i; known = record { levels = w.known.levels; limits = w.known.limits; others = w.known.others; txns = slice_set w.known.txns (sym minus i) (said.kept i) } } in
     (said.text ∙ ap (λ (a : Answer). before ++ a.text) (sym same), end ∙ ap (λ (a : Answer). a.after) (sym same))
 
 -- the line of the shell says that, and what is known stays

@@ -18,15 +18,15 @@ on_err (Err fault) P is = is
 
 pub returns : goal.returns
 returns c =
-    let known : Known = record { levels = c.self.inside.levels; limits = c.self.inside.limits; txns = c.reserve.new.self.items } in
+    let known : Known = record { levels = c.self.inside.levels; limits = c.self.inside.limits; others = c.self.inside.others; txns = c.reserve.new.self.items } in
     let old : record { journals = c.self.inside.recorder.journals; known = known } ≡ c.args.self.now =
-    (λ i. record { journals = c.self.inside.recorder.journals; known = record { levels = c.self.inside.levels; limits = c.self.inside.limits; txns = c.reserve.ensures.items i } }) ∙ c.self.view_is in
+    (λ i. record { journals = c.self.inside.recorder.journals; known = record { levels = c.self.inside.levels; limits = c.self.inside.limits; others = c.self.inside.others; txns = c.reserve.ensures.items i } }) ∙ c.self.view_is in
     let ran = answered_by (desk_line Begin) (λ end. begin_end known end.answer) c.self.inside.recorder c.desk-answer.new.self (line_result c.desk-answer.result) tt c.show_replayed.ensures c.show_replayed-2.ensures c.desk-answer.ensures.tree (asked_desk Begin c.desk-answer.result c.self.inside.recorder.told c.desk-answer.new.self.told c.desk-answer.ensures.exchanges c.desk-answer.ensures.same) c.in_ok-begin_end.ensures.memory in
     let journals = c.desk-answer.new.self.journals in
-    let is : record { journals = journals; known = record { levels = c.self.inside.levels; limits = c.self.inside.limits; txns = c.begin_end.new.txns.items } } ≡ record { journals = journals; known = (begin_end known (line_result c.desk-answer.result)).known } =
-    λ i. record { journals = journals; known = sym c.begin_end.ensures.known i } in
+    let is : record { journals = journals; known = record { levels = c.self.inside.levels; limits = c.self.inside.limits; others = c.self.inside.others; txns = c.begin_end.new.txns.items } } ≡ record { journals = journals; known = (begin_end known (line_result c.desk-answer.result)).known } =
+    λ i. record { journals = journals; known = sym (c.begin_end.ensures.known c.self.inside.others) i } in
     record {
-      text = c.in_ok-begin_end.ensures.text ∙ ap (λ t. c.args.text.now.items ++ t) (ran.0 ∙ ap (λ (w : World). (answer_of_run (run_line w.journals (begin_asked w.known))).text) old);
+      text = c.in_ok-begin_end.ensures.text c.self.inside.others ∙ ap (λ t. c.args.text.now.items ++ t) (ran.0 ∙ ap (λ (w : World). (answer_of_run (run_line w.journals (begin_asked w.known))).text) old);
       after = is ∙ ran.1 ∙ ap (λ (w : World). (answer_of_run (run_line w.journals (begin_asked w.known))).after) old;
       whole = tt;
       kept = tt;
@@ -34,11 +34,11 @@ returns c =
 
 pub returns-in_err-begin_end-clause-whole : goal.returns-in_err-begin_end-clause-whole
 returns-in_err-begin_end-clause-whole c =
-    let known : Known = record { levels = c.self.inside.levels; limits = c.self.inside.limits; txns = c.reserve.new.self.items } in
-    let after : Known = record { levels = c.self.inside.levels; limits = c.self.inside.limits; txns = c.begin_end.new.txns.items } in
+    let known : Known = record { levels = c.self.inside.levels; limits = c.self.inside.limits; others = c.self.inside.others; txns = c.reserve.new.self.items } in
+    let after : Known = record { levels = c.self.inside.levels; limits = c.self.inside.limits; others = c.self.inside.others; txns = c.begin_end.new.txns.items } in
     let old : record { journals = c.self.inside.recorder.journals; known = known } ≡ c.args.self.now =
-    (λ i. record { journals = c.self.inside.recorder.journals; known = record { levels = c.self.inside.levels; limits = c.self.inside.limits; txns = c.reserve.ensures.items i } }) ∙ c.self.view_is in
+    (λ i. record { journals = c.self.inside.recorder.journals; known = record { levels = c.self.inside.levels; limits = c.self.inside.limits; others = c.self.inside.others; txns = c.reserve.ensures.items i } }) ∙ c.self.view_is in
     let P : World → Type 0 = λ w. IsWhole w lines.Begin (record { journals = c.desk-answer.new.self.journals; known = after }) in
     on_err c.from_residual-in_err-begin_end.result (P c.args.self.now)
     (subst P old
-    (begun_whole c.self.inside.recorder c.desk-answer.new.self known after c.desk-answer.result c.show_replayed.ensures c.show_replayed-2.ensures c.desk-answer.ensures.tree c.desk-answer.ensures.exchanges c.desk-answer.ensures.same c.begin_end.ensures.known))
+    (begun_whole c.self.inside.recorder c.desk-answer.new.self known after c.desk-answer.result c.show_replayed.ensures c.show_replayed-2.ensures c.desk-answer.ensures.tree c.desk-answer.ensures.exchanges c.desk-answer.ensures.same (c.begin_end.ensures.known c.self.inside.others)))
