@@ -37,7 +37,8 @@ pub fn rehearse<J: Source, R: Source, W: Sink>(
     let bytes = read_all(alloc, journals)?;
     match opened(alloc, bytes)? {
         Opened::Ready { service } => {
-            answer_lines(alloc, Shell::over(alloc, service), lines, writer)?;
+            let shell = Shell::over(alloc, service);
+            answer_lines(alloc, shell, lines, writer)?;
             Ok(0)
         }
         Opened::Refused { finding } => {

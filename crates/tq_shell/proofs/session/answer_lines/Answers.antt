@@ -1,0 +1,15 @@
+use Rattle.std.proofs.Common.{◌∙◌, ap, subst, sym}
+use Rattle.tq_interpreter.specs.Answer.{World}
+use Rattle.tq_shell.specs.Stream.{Received, nothing_received}
+use Rattle.tq_shell.proofs.SessionLaws.{HasRun}
+use Rattle.tq_shell.proofs.session.answer_lines.Goals as goal
+
+pub answer_pieces-requires-new : goal.answer_pieces-requires-new
+answer_pieces-requires-new g c = c.new-receiver.ensures ∙ ap nothing_received (sym (ap (λ (r : Received). r.world) c.new-receiver.ensures))
+
+pub returns-clause-text : goal.returns-clause-text
+returns-clause-text g c =
+    let given = g.R.Source.given in
+    let taken = g.W.Sink.taken in
+    let P : World → Type 0 = λ w. HasRun c.answer_pieces-ran.result w (g.R.Source.is_ended c.answer_pieces-ran.new.reader) (given c.args.reader.now) (given c.answer_pieces-ran.new.reader) (taken c.args.writer.now) (taken c.answer_pieces-ran.new.writer) in
+    subst P (ap (λ (r : Received). r.world) c.new-receiver.ensures) c.answer_pieces-ran.ensures.text
