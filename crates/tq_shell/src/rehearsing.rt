@@ -5,8 +5,10 @@ ghost use Rattle.tq_shell.specs.Rehearsal.{IsRehearsalCount, IsRehearsalText};
 
 use crate::opened::{Opened, opened};
 use crate::reading::read_all;
-use crate::session::answer_lines;
+use crate::receiver::Receiver;
+use crate::session::answer_pieces;
 use std::alloc::Global;
+use std::mem;
 use tq_devices::{RunFault, Sink, Source, write_out};
 use tq_interpreter::Shell;
 
@@ -37,8 +39,10 @@ pub fn rehearse<J: Source, R: Source, W: Sink>(
     let bytes = read_all(alloc, journals)?;
     match opened(alloc, bytes)? {
         Opened::Ready { service } => {
-            let shell = Shell::over(alloc, service);
-            answer_lines(alloc, shell, lines, writer)?;
+            let mut receiver = Receiver::new(alloc, Shell::over(alloc, service));
+            let ran = answer_pieces(alloc, &mut receiver, lines, writer);
+            mem::forget(receiver);
+            ran?;
             Ok(0)
         }
         Opened::Refused { finding } => {

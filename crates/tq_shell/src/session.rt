@@ -19,7 +19,8 @@ pub const INPUT_LIMIT: usize = 16_777_216;
 const PIECE: usize = 65_536;
 
 /// Answers the lines of the source, over a tree of so many levels that was asked nothing, and writes the answers to each piece
-/// of it before it reads the next, and in the midst of a piece as soon as there are enough of them.
+/// of it before it reads the next, and in the midst of a piece as soon as there are enough of them. What the service kept is left
+/// to the end of the process, which takes it back at once: to free it entry by entry takes a tenth of a run.
 pub fn run<R: Source, W: Sink>(
     alloc: Global,
     levels: Levels,
@@ -37,27 +38,6 @@ pub fn run<R: Source, W: Sink>(
         (R.failed reader.old) (R.failed reader.new) (W.failed writer.old) (W.failed writer.new) }
 {
     let shell = Shell::new(alloc, levels)?;
-    answer_lines(alloc, shell, reader, writer)
-}
-
-/// The same by a shell that answers on from where it stands. What its service kept is left to the end of the process, which
-/// takes it back at once: to free it entry by entry takes a tenth of a run.
-pub(crate) fn answer_lines<R: Source, W: Sink>(
-    alloc: Global,
-    shell: Shell,
-    reader: &mut R,
-    writer: &mut W,
-) -> Result<(), RunFault>
-    requires reads { R.failed reader.old < 2 ^ 64 - 1 }
-    requires writes { W.failed writer.old < 2 ^ 64 - 1 }
-    ensures text { (bytes : List ℕ) × (text : List ℕ)
-        × Appends (R.given reader.old) (R.given reader.new) bytes
-        × Appends (W.taken writer.old) (W.taken writer.new) text
-        × IsRunText result shell (R.is_ended reader.new) bytes text }
-    ensures end { OnOk result (IsTrue (R.is_ended reader.new)) }
-    ensures counts { IsRunCount result
-        (R.failed reader.old) (R.failed reader.new) (W.failed writer.old) (W.failed writer.new) }
-{
     let mut receiver = Receiver::new(alloc, shell);
     let ran = answer_pieces(alloc, &mut receiver, reader, writer);
     mem::forget(receiver);
@@ -66,7 +46,7 @@ pub(crate) fn answer_lines<R: Source, W: Sink>(
 
 /// Answers what the source gives, a piece after another, by a receiver that received nothing yet. The answers to a piece are
 /// written each time that there are enough of them, and at its end. Where memory is refused, those that are whole are written.
-fn answer_pieces<R: Source, W: Sink>(
+pub(crate) fn answer_pieces<R: Source, W: Sink>(
     alloc: Global,
     receiver: &mut Receiver,
     reader: &mut R,
