@@ -52,18 +52,29 @@ makes_ran (AsksView ask next) old new told end made replays =
     let after = world_after old (steps.View ask) in
     asked_first (exchanges.View ask) (λ t. run_line after (next t)) made.0 (view_told old ask) made.1 told end new replayed.0 made.2 (makes_ran (next made.0) after new made.1 end made.3 replayed.1)
 
+first_of : (n m : ℕ) (more rest : List ℕ) → n ∷ more ≡ m ∷ rest → n ≡ m
+first_of n m more rest is = cc
+
+behind : (n m : ℕ) (more rest : List ℕ) → n ∷ more ≡ m ∷ rest → more ≡ rest
+behind n m more rest is = cc
+
+apart : (n m : ℕ) (more rest : List ℕ) → n ∷ more ≡ m ∷ rest → (n ≡ m → ⊥) → ⊥
+apart n m more rest is other = other (first_of n m more rest is)
+
 -- a list of numbers has one tree, and what stands behind it
 one_tree : (a b : Gv) (more rest : List ℕ) → numbers_of a ++ more ≡ numbers_of b ++ rest → (a ≡ b) × (more ≡ rest)
-one_tree gnil gnil more rest is = (refl, cc)
-one_tree gnil (gnum m) more rest is = absurd cc
-one_tree gnil (gcons c d) more rest is = absurd cc
-one_tree (gnum n) gnil more rest is = absurd cc
-one_tree (gnum n) (gnum m) more rest is = (ap gnum cc, cc)
-one_tree (gnum n) (gcons c d) more rest is = absurd cc
-one_tree (gcons a b) gnil more rest is = absurd cc
-one_tree (gcons a b) (gnum m) more rest is = absurd cc
+one_tree gnil gnil more rest is = (refl, behind 0 0 more rest is)
+one_tree gnil (gnum m) more rest is = absurd (apart 0 1 more (m ∷ rest) is (λ same. omega (arith, same)))
+one_tree gnil (gcons c d) more rest is = absurd (apart 0 2 more ((numbers_of c ++ numbers_of d) ++ rest) is (λ same. omega (arith, same)))
+one_tree (gnum n) gnil more rest is = absurd (apart 1 0 (n ∷ more) rest is (λ same. omega (arith, same)))
+one_tree (gnum n) (gnum m) more rest is =
+    let tails = behind 1 1 (n ∷ more) (m ∷ rest) is in
+    (ap gnum (first_of n m more rest tails), behind n m more rest tails)
+one_tree (gnum n) (gcons c d) more rest is = absurd (apart 1 2 (n ∷ more) ((numbers_of c ++ numbers_of d) ++ rest) is (λ same. omega (arith, same)))
+one_tree (gcons a b) gnil more rest is = absurd (apart 2 0 ((numbers_of a ++ numbers_of b) ++ more) rest is (λ same. omega (arith, same)))
+one_tree (gcons a b) (gnum m) more rest is = absurd (apart 2 1 ((numbers_of a ++ numbers_of b) ++ more) (m ∷ rest) is (λ same. omega (arith, same)))
 one_tree (gcons a b) (gcons c d) more rest is =
-    let tails : (numbers_of a ++ numbers_of b) ++ more ≡ (numbers_of c ++ numbers_of d) ++ rest = cc in
+    let tails = behind 2 2 ((numbers_of a ++ numbers_of b) ++ more) ((numbers_of c ++ numbers_of d) ++ rest) is in
     let first = one_tree a c (numbers_of b ++ more) (numbers_of d ++ rest) (sym (append_assoc (numbers_of a) (numbers_of b) more) ∙ tails ∙ append_assoc (numbers_of c) (numbers_of d) rest) in
     let second = one_tree b d more rest first.1 in
     (λ i. gcons (first.0 i) (second.0 i), second.1)

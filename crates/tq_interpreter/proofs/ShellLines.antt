@@ -1,5 +1,5 @@
 -- A line of the shell whose asks are the dialogue's is answered so.
-use Rattle.std.proofs.Common.{◌≡◌, ◌∙◌, ◌+◌, ◌-◌, ◌<◌, length, get_or, arith, ℕ, false, List, [], ◌++◌, Result, Err, refl, sym, ap, inl, inr}
+use Rattle.std.proofs.Common.{◌≡◌, ◌∙◌, ◌+◌, ◌-◌, ◌<◌, length, get_or, arith, ℕ, false, List, [], ◌++◌, Result, Ok, Err, refl, sym, ap, subst, inl, inr}
 use Rattle.std.specs.Prelude.{IfOk}
 use Rattle.tq_part.specs.declared.fault.AskFault.{AskFault}
 use Rattle.tq_part.specs.declared.fault.AskFault.TheVariants as ask_faults
@@ -20,12 +20,18 @@ use Rattle.std.specs.Prelude.{slice_set}
 use Rattle.std.proofs.lemmas.Option.{slice_get_read}
 use Rattle.tq_text.specs.Print.{printed_line}
 use Rattle.tq_interpreter.specs.Recorded.{RecorderView, IsReplayed}
-use Rattle.tq_interpreter.specs.Asked.{LineAnswer, begin_end, of_txn}
+use Rattle.tq_interpreter.specs.Asked.{LineAnswer, begin_end, begin_reply, of_txn}
 use Rattle.tq_interpreter.proofs.Leading.{item_of, ran_as, replays_on, then_ran}
 use Rattle.tq_interpreter.proofs.Answered.{got_to, line_ran}
 use Rattle.tq_interpreter.specs.Operators.{refresh_asked}
 use Rattle.tq_interpreter.specs.Asked.{refresh_line, text_answer}
-use Rattle.tq_interpreter.specs.Known.{Known}
+use Rattle.tq_interpreter.specs.Known.{AreOfTree, Known, fresh, known_of}
+use Rattle.std.specs.Global.{Vec}
+use Rattle.std.proofs.lemmas.List.Elements.{All-push}
+use Rattle.tq_shape.specs.Limits.{LimitsView}
+use Rattle.tq_desk.specs.declared.ask.DeskReply.{DeskReply}
+use Rattle.tq_desk.specs.declared.ask.DeskReply.TheVariants as desk_replies
+use Rattle.tq_txn.specs.States.{levels_of}
 
 -- a line of the shell that was answered so
 pub answered_by : {A S : Type 0} (line : Dialogue (LineEnd A S)) (f : LineEnd A S → LineAnswer) (old new : RecorderView) (result : Result A LineFault) (after : S)
@@ -59,6 +65,20 @@ pub refresh_answered : (journals : JournalsView) (known : Known) → ((run_line 
 refresh_answered journals known =
     let ran = then_ran (refresh_asked journals) (text_answer known) journals in
     (ap (λ r. (answer_of_run r).text) (sym ran), ap (λ r. (answer_of_run r).after) (sym ran))
+
+-- a transaction that was begun is of the tree, as those before it are
+pub begun_of_tree : (levels : ℕ) (limits : LimitsView) (others : ℕ) (old new : Vec TxnSlot) (result : Result DeskTold LineFault) → (begin_end (known_of levels limits others old) result).known ≡ known_of levels limits others new
+    → AreOfTree levels old.items → AreOfTree levels new.items
+begun_of_tree levels limits others old new result known each = subst (λ (k : Known). AreOfTree levels k.txns) known (by result)
+  where
+    by_reply : (reply : DeskReply) → AreOfTree levels (begin_reply (known_of levels limits others old) reply).known.txns
+    by_reply (desk_replies.Txn number) = All-push (λ (k : TxnSlot). levels_of k.txn ≡ levels) old.items (fresh levels limits number) each refl
+    by_reply (desk_replies.Refused refusal) = each
+    by_reply other = each
+
+    by : (result : Result DeskTold LineFault) → AreOfTree levels (begin_end (known_of levels limits others old) result).known.txns
+    by (Ok told) = by_reply told.reply
+    by (Err fault) = each
 
 -- the world stands before the line that begins a transaction, or behind it
 pub begun_whole : (old new : RecorderView) (before after : Known) (result : Result DeskTold AskFault) → IsReplayed old → IsReplayed new → new.journals.levels ≡ old.journals.levels → new.told ≡ old.told ++ desk_exchange Begin result → IfOk result (λ told. told.ask ≡ Begin)

@@ -50,7 +50,7 @@ full_limits = record { files = 1000; ops = 64; entries = 1000000 }
 -- ---- where the asks began
 
 -- a tree of numbers as a list of them
-pub numbers_of : Gv → List ℕ
+abbrev pub numbers_of : Gv → List ℕ
 numbers_of gnil = 0 ∷ []
 numbers_of (gnum n) = 1 ∷ n ∷ []
 numbers_of (gcons a b) = 2 ∷ (numbers_of a ++ numbers_of b)

@@ -7,14 +7,28 @@ use Rattle.tq_txn.proofs.LineLaws.{asked_desk}
 use Rattle.tq_interpreter.specs.Answer.{World, IsWhole, answer_of_run}
 use Rattle.tq_interpreter.specs.Asked.{begin_end, begin_asked}
 use Rattle.tq_interpreter.specs.Asking.{run_line}
-use Rattle.tq_interpreter.specs.Known.{Known}
-use Rattle.tq_interpreter.proofs.ShellLines.{answered_by, begun_whole}
+use Rattle.tq_interpreter.specs.Known.{AreOfTree, Known}
+use Rattle.tq_interpreter.proofs.ShellLines.{answered_by, begun_of_tree, begun_whole}
 use Rattle.tq_interpreter.proofs.shell.Shell.begin.Goals as goal
 
 -- what holds holds after an error
 on_err : {A E : Type 0} (result : Result A E) (P : Type 0) → P → OnErr result P
 on_err (Ok a) P is = tt
 on_err (Err fault) P is = is
+
+pub invariant_of-self-in_err-begin_end : goal.invariant_of-self-in_err-begin_end
+invariant_of-self-in_err-begin_end c =
+    let each = subst (AreOfTree c.self.inside.levels) (sym c.reserve.ensures.items) c.self.invariant.1 in (
+      c.desk-answer.ensures.tree ∙ c.self.invariant.0,
+      begun_of_tree c.self.inside.levels c.self.inside.limits c.self.inside.others c.reserve.new.self c.begin_end.new.txns (line_result c.desk-answer.result) (c.begin_end.ensures.known c.self.inside.others) each,
+    )
+
+pub invariant_of-self-2 : goal.invariant_of-self-2
+invariant_of-self-2 c =
+    let each = subst (AreOfTree c.self.inside.levels) (sym c.reserve.ensures.items) c.self.invariant.1 in (
+      c.desk-answer.ensures.tree ∙ c.self.invariant.0,
+      begun_of_tree c.self.inside.levels c.self.inside.limits c.self.inside.others c.reserve.new.self c.begin_end.new.txns (line_result c.desk-answer.result) (c.begin_end.ensures.known c.self.inside.others) each,
+    )
 
 pub returns : goal.returns
 returns c =
