@@ -77,6 +77,22 @@ impl Service {
         Ok(Service { tabled })
     }
 
+    /// A service that has taken these journals: each part stands as its journal leaves it. The entries are not copied.
+    pub fn resume(alloc: Global, journals: Journals) -> Result<Service, Memory>
+        requires { spec.IsOfRun journals }
+        ensures { IfOk result (λ service. service ≡ journals) }
+    {
+        let tabled = TabledJournals::of(alloc, journals)?;
+        Ok(Service { tabled })
+    }
+
+    /// The limits of the system.
+    pub fn limits(&self) -> Limits
+        ensures { result ≡ self.now.limits }
+    {
+        self.tabled.limits
+    }
+
     /// The view, as its journal leaves it.
     pub fn view(&self) -> &View
         ensures { result.now ≡ world.view_at self.now.levels self.now.view }

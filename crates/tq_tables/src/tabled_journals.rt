@@ -2,6 +2,7 @@
 
 ghost use Rattle.std.specs.Prelude.{◌≡◌, ◌-◌, ◌^◌, [], replicate, IfOk};
 ghost use Rattle.tq_tables.specs.Journals.{AreJournals, entries_in, no_entries};
+ghost use Rattle.tq_tables.specs.Parts.{AreLegal};
 ghost use Rattle.tq_tables.specs.Tabled.{journals_of};
 ghost use Rattle.tq_tables.specs.Tables.{tables_of};
 
@@ -47,6 +48,25 @@ impl TabledJournals {
             servers,
             desk: Vec::new(alloc),
             view: Vec::new(alloc),
+        })
+    }
+
+    /// These journals with their tables: each reply is the one that its part gives there. The entries are not copied.
+    pub fn of(alloc: Global, journals: Journals) -> Result<TabledJournals, Memory>
+        requires { AreLegal journals }
+        ensures journals { IfOk result (λ tabled. journals_of tabled ≡ journals) }
+        ensures tables { IfOk result (λ tabled. tabled.tables ≡ tables_of journals) }
+        ensures form { IfOk result (λ tabled. AreJournals (journals_of tabled)) }
+    {
+        let tables = Tables::of(alloc, &journals)?;
+        let limits = journals.limits();
+        let (servers, desk, view) = journals.into_entries();
+        Ok(TabledJournals {
+            limits,
+            tables,
+            servers,
+            desk,
+            view,
         })
     }
 
