@@ -8,10 +8,10 @@ ghost use Rattle.tq_tables.specs.Files.{AreExact, version_in, written_row};
 ghost use Rattle.tq_tables.specs.Parts.{AreOfTree};
 ghost use Rattle.tq_tables.specs.Rows as spec;
 
+use crate::FileRow;
 use crate::file_names::FileNames;
 use crate::file_table::FileTable;
 use crate::holders::Holders;
-use crate::FileRow;
 use std::alloc::Global;
 use tq_desk::Op;
 use tq_node::Node;

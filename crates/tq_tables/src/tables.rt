@@ -17,11 +17,11 @@ use crate::followed::Followed;
 use crate::holders::Holders;
 use crate::intent_rows::{OpenIntents, intent_rows};
 use crate::lock_rows::lock_rows;
+use crate::parts::Parts;
 use crate::quorum_rows::{least_into, quorum_rows};
 use crate::ready::Ready;
 use crate::ready_entry::ReadyEntry;
 use crate::replies::{Replies, twice};
-use crate::parts::Parts;
 use crate::{FileRow, IntentRow, Journals, LockRow, PartEntry, QuorumRow};
 use std::alloc::Global;
 use std::marker::Model;
@@ -391,7 +391,11 @@ impl Tables {
     pub fn intentions(&self, alloc: Global) -> Result<Vec<IntentRow>, Memory>
         ensures { IfOk result (λ rows. rows.items ≡ self.now.intentions) }
     {
-        intent_rows(alloc, self.followed.parts.nodes(), self.followed.parts.desk())
+        intent_rows(
+            alloc,
+            self.followed.parts.nodes(),
+            self.followed.parts.desk(),
+        )
     }
 
     /// The same, one after another, each with its writes as they are kept. It takes no memory.
