@@ -10,6 +10,7 @@ at once, and so are its votes. It cites only what it was told, and keeps that as
 Where an answer was lost, the part may have taken the ask, or may yet. A lock is asked for again: it keeps its `since`, and the new entry is cited. A second
 Prepare is refused (15), so the vote is looked up in the part's journal. A second Commit tells how the transaction ended (22). All else is asked again. An ask
 that comes late may leave a lock, or a vote, that nobody uses: who is held up by it for longer than `patience` ends its transaction."""
+import collections
 import json
 import os
 import random
@@ -76,7 +77,9 @@ class Client:
         self.name = name or f"{socket.gethostname()}-{os.getpid()}-{random.getrandbits(32):08x}"
         self.link = (Redis if config.get("redis") else Tcp)(config, self.name, timeout)
         self.servers, self.receipts, self.patience = range(1, 2 ** config["levels"]), receipts, patience
-        self.count, self.trips, self.untold, self.blocked = 0, 0, [], {}
+        self.count, self.trips, self.blocked = 0, 0, {}
+        # Verdicts that servers have not heard, and when they are told next. One that falls out is left to who is held up by it.
+        self.untold, self.tell_at = collections.deque(maxlen=1000), 0
 
     # Messages
 
@@ -241,7 +244,7 @@ class Client:
         return told["verdict"]["is"]
 
     def inform(self, number, servers, at, verdict):
-        """Brings the verdict. What servers do not answer is kept, and told again before the next transaction."""
+        """Brings the verdict. What servers do not answer is kept, and told again before a later transaction."""
         decide = {"cite": at, "is": "decide", "txn": number, "verdict": verdict}
         told = dict(zip(servers, self.ask_once([(server, decide) for server in servers])))
         locked = [server for server, it in told.items() if it and it[1].get("code") == NOTHING]
@@ -251,9 +254,10 @@ class Client:
             self.untold.append((number, left, at, verdict))
 
     def tell_again(self):
-        for it in self.untold[:AT_ONCE]:
-            self.untold.remove(it)
-            self.inform(*it)
+        if self.untold and time.monotonic() > self.tell_at:
+            for _ in range(min(AT_ONCE, len(self.untold))):
+                self.inform(*self.untold.popleft())
+            self.tell_at = time.monotonic() + self.patience
 
     def run(self, work, tries=20):
         """What `work(txn)` gives, committed: tried again, after longer and longer waits, where it was refused or a server did not answer."""

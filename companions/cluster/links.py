@@ -39,8 +39,8 @@ class Tcp:
             asked = {self.socks[part].fileno(): part for part in waiting if part in self.socks}
             for part in ready(asked, left):
                 for answer in self.receive(part):
-                    got[answer["id"]] = answer
-                    waiting[part].discard(answer["id"])
+                    got[answer.get("id")] = answer
+                    waiting[part].discard(answer.get("id"))
             waiting = {part: numbers for part, numbers in waiting.items() if numbers and part in self.socks}
         return got
 
@@ -85,8 +85,8 @@ class Redis:
             while len(got) < len(messages) and (left := end - time.monotonic()) > 0.01:
                 self.sock.sendall(resp.command("BLPOP", f"tq:answer:{self.name}", round(left, 3)))
                 told = self.value(end + self.timeout)
-                answer = json.loads(told[1]) if told else {"id": None}
-                if answer["id"] in [number for _, number, _ in messages]:
+                answer = json.loads(told[1]) if told else {}
+                if answer.get("id") in [number for _, number, _ in messages]:
                     got[answer["id"]] = answer
         except OSError:
             if self.sock:

@@ -1,6 +1,6 @@
 #!/usr/bin/env python3
-"""load.py DIR NAME SEED SECONDS LOST: a client for the tests. It reads and writes up to three of FILES files a transaction for so many seconds, and loses that
-share of its answers. DIR/receipts/NAME has what it was told, DIR/NAME.done a line for each commit that it was sure of: transaction, and what it had read."""
+"""load.py DIR NAME SEED LOST: a client for the tests. It reads and writes up to three of FILES files a transaction until DIR/end is there, and loses that share
+of its answers. DIR/receipts/NAME has what it was told, DIR/NAME.done a line for each commit that it was sure of: transaction, and what it had read."""
 import json
 import os
 import random
@@ -41,14 +41,13 @@ def work_of(asker, dice):
     return work
 
 
-def main(folder, name, seed, seconds, lost):
+def main(folder, name, seed, lost):
     dice, count = random.Random(int(seed)), dict.fromkeys(("commits", "given up", "undecided"), 0)
     random.seed(int(seed))
     with open(f"{folder}/receipts/{name}", "w", encoding="utf-8") as receipts, open(f"{folder}/{name}.done", "w", encoding="utf-8") as done:
         asker = client.Client(places.read(folder), name, receipts, timeout=0.7, patience=1.0)
         asker.link = Lossy(asker.link, dice, float(lost))
-        end = time.monotonic() + float(seconds)
-        while time.monotonic() < end:
+        while not os.path.exists(f"{folder}/end"):
             try:
                 done.write(json.dumps(asker.run(work_of(asker, dice))) + "\n")
                 count["commits"] += 1
