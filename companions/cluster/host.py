@@ -143,10 +143,10 @@ def main():
     if given.part == "desk":
         plain.MOST_FILES, plain.MOST_OPS = given.limits[:2]
     try:
-        log = open(given.log, "r+b", buffering=0)
+        log = os.fdopen(os.open(given.log, os.O_RDWR | os.O_CREAT, 0o666), "r+b", buffering=0)
         fcntl.flock(log, fcntl.LOCK_EX | fcntl.LOCK_NB)
-    except OSError:
-        print("fault log")
+    except OSError as fault:
+        print("fault log: it has a host" if isinstance(fault, BlockingIOError) else "fault log")
         return 1
     host = Host(given)
     status, told = host.replay(log)
