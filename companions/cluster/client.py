@@ -4,8 +4,8 @@
     text = client.run(lambda txn: client.read(txn, "plan"))
     client.run(lambda txn: client.write(txn, "plan", b"new"))
 
-`run` begins, does the work and commits it, again where it was refused. By hand: `begin`, `read`, `write`, `commit`, `abort`. The locks of a quorum are asked for
-at once, and so are its votes. It cites only what it was told, and keeps that as receipts, which `collect` holds against the journals.
+`run` begins, does the work and commits it, again where it was refused. By hand: `begin`, `read`, `write`, `commit`, `abort`. The locks of a quorum are asked
+for at once, and so are its votes. It cites only what it was told, and keeps that as receipts, which `collect` holds against the journals.
 
 Where an answer was lost, the part may have taken the ask, or may yet. A lock is asked for again: it keeps its `since`, and the new entry is cited. A second
 Prepare is refused (15), so the vote is looked up in the part's journal. A second Commit tells how the transaction ended (22). All else is asked again. An ask
@@ -248,7 +248,8 @@ class Client:
         decide = {"cite": at, "is": "decide", "txn": number, "verdict": verdict}
         told = dict(zip(servers, self.ask_once([(server, decide) for server in servers])))
         locked = [server for server, it in told.items() if it and it[1].get("code") == NOTHING]
-        told |= dict(zip(locked, self.ask_once([(server, {"is": "release", "txn": number}) for server in locked]))) if locked else {}
+        if locked:
+            told |= dict(zip(locked, self.ask_once([(server, {"is": "release", "txn": number}) for server in locked])))
         left = {server for server, it in told.items() if it is LOST}
         if left:
             self.untold.append((number, left, at, verdict))
