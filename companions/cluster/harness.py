@@ -17,7 +17,7 @@ class Cluster:
 
     def __init__(self, folder, levels, host, base, redis=None, hosts=()):
         self.folder, self.host, self.hosts, self.running = folder, host, dict(hosts), {}
-        words = ["--levels", str(levels), "--base", str(base), "--host", "/bin/false", "--seconds", "0", *["--redis", redis] * bool(redis)]
+        words = ["--levels", str(levels), "--base", str(base), "--host", "/bin/false", "--seconds", "0", *["--transport", "redis", "--redis", redis] * bool(redis)]
         subprocess.run([f"{HERE}/up", "--dir", folder, *words], stderr=subprocess.DEVNULL, check=False)
         self.config, self.said = places.read(folder), open(f"{folder}/said", "ab")
         self.parts, self.servers = places.parts(levels), range(1, 2**levels)
