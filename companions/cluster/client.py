@@ -21,7 +21,7 @@ import places
 from links import Redis, Tcp
 
 LOST = None
-HELD, PREPARED, NOTHING, NO_TXN, DECIDED = 14, 15, 19, 21, 22
+HELD, PREPARED, NOTHING, DECIDED = 14, 15, 19, 22
 FULL = {"code": 2, "is": "refused"}
 AT_ONCE, CHUNK = 6, 500
 

@@ -1,4 +1,5 @@
 """A cluster for the tests, whose processes are killed, stopped and continued."""
+import contextlib
 import os
 import signal
 import subprocess
@@ -38,6 +39,9 @@ class Cluster:
 
     def start(self, part, host=None):
         words = [sys.executable, f"{HERE}/part", self.folder, str(part), "--host", host or self.hosts.get(part, self.host)]
+        # That of the host before is no host's any more.
+        with contextlib.suppress(FileNotFoundError):
+            os.remove(f"{self.folder}/{part}/host.pid")
         self.running[part] = subprocess.Popen(words, stdin=subprocess.DEVNULL, stdout=self.said, stderr=self.said)
 
     def wait(self, parts, seconds=60):
@@ -54,15 +58,15 @@ class Cluster:
 
     def signal(self, part, what, number):
         """Sends a signal to the part's `host` or `bridge`, where it is there."""
-        try:
+        with contextlib.suppress(ProcessLookupError, FileNotFoundError):
             os.kill(self.host_of(part) if what == "host" else self.running[part].pid, number)
-        except (ProcessLookupError, FileNotFoundError):
-            pass
 
     def kill(self, part, what):
-        """With either the other ends too."""
-        self.signal(part, what, signal.SIGKILL)
-        return self.running.pop(part).wait()
+        """With either the other ends too. A host that is not there yet is waited for."""
+        while self.running[part].poll() is None:
+            self.signal(part, what, signal.SIGKILL)
+            time.sleep(0.02)
+        return self.running.pop(part).returncode
 
     def pause(self, part, what):
         self.signal(part, what, signal.SIGSTOP)

@@ -9,7 +9,6 @@ without a line feed is cut off. Then each line read is one ask, in the form of j
 together by one sync. Where the log fails, `fault log` (1)."""
 import argparse
 import fcntl
-import json
 import os
 import sys
 

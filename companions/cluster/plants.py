@@ -3,7 +3,6 @@
 two wrong hosts. README.md shows the lines that `told` gives; check compares."""
 import json
 import os
-import re
 import shutil
 import subprocess
 import sys
