@@ -1,6 +1,5 @@
 //! The words of the command lines.
 //!
-//! Files: `command.rt` the subcommands of `tq`, their words and their help; `rehearsal.rt` those of `tqd`.
 //! Definitions: `specs/Command`, `Rehearsal`; `proofs/ParseLaws`, `CommandLaws`, `FileLaws` clap's parse.
 #![tactic(auto)]
 

@@ -1,3 +1,5 @@
+//! The service: all parts, their tables and their journals.
+
 ghost use Rattle.std.specs.Prelude.{◌≡◌, ◌+◌, ◌-◌, ◌^◌, IfOk, OnOk, OnErr, length};
 ghost use Rattle.std.specs.Option.{option_copied, option_map};
 ghost use Rattle.tq_desk.specs.DeskStep.{desk_reply};

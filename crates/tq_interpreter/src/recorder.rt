@@ -1,3 +1,5 @@
+//! The service that lines are asked of, with what contracts see of its answers.
+
 ghost use Rattle.std.specs.Prelude.{◌≡◌, IfOk};
 
 use crate::history::History;

@@ -1,3 +1,5 @@
+//! Any line of the shell.
+
 ghost use Rattle.std.specs.Prelude.{◌≡◌, ◌++◌, ◌<◌, ◌+◌, ℕ, [], false, length, None, IfOk, OnOk, OnErr, IfSome, IsNone, vec_len, vec_capacity};
 ghost use Rattle.tq_txn.specs.Dialogue.{line_result};
 ghost use Rattle.tq_txn.specs.States.{levels_of};

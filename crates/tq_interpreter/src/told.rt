@@ -1,3 +1,5 @@
+//! What contracts see of what was told.
+
 ghost use Rattle.std.specs.Prelude.{◌≡◌, ◌++◌, ◌∷◌, [], Ok, Err};
 ghost use Rattle.std.specs.List.{flat_map};
 ghost use Rattle.tq_txn.specs.declared.asker.Exchange.TheVariants as exchanges;
@@ -5,8 +7,8 @@ ghost use Rattle.tq_txn.specs.Dialogue.{unless_memory};
 ghost use Rattle.tq_interpreter.specs.Recorded.{mark_of, told_exchanges};
 
 use crate::history::History;
-use tq_core::Service;
 use tq_asks::{NodeAsk, NodeReply};
+use tq_core::Service;
 use tq_desk::{DeskAsk, DeskReply};
 use tq_live::{ViewAsk, ViewReply};
 use tq_part::{Answered, AskFault};

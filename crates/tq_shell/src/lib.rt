@@ -1,10 +1,8 @@
 //! What the program calls: the session of a shell, lines in, answers out; client scripts run in threads, from their text to the
 //! journals of all parts; the audit of a journal file, whether one sequential run explains it; its upgrade to the format that is
-//! written now; lines that are answered over the journals of a file; and, handed on, the words of the command line and the devices that they read and write.
+//! written now; lines that are answered over the journals of a file; and, handed on, the words of the command line and the
+//! devices that they read and write.
 //!
-//! Files: `session.rt` `run` over `receiver.rt`, pieces of input to lines; `threading.rt` over `reading.rt`, `running.rt`,
-//! `outcome.rt` client scripts in threads; `auditing.rt` over `reading.rt`, `judging.rt`, `audit_finding.rt` the audit; `upgrading.rt`
-//! the upgrade; `rehearsing.rt` over `opened.rt` lines over the journals of a file; `line.rt` a line that is written.
 //! Definitions: `specs/Session`, `SessionRun`, and `Stream`, the code's own word; `Running`, `Outcome`, `Threads`; `Verdicts`,
 //! `Texts`, `Report`, `Audit`, `Upgrade`, `Rehearsal`, `Reading`.
 #![tactic(auto)]

@@ -1,3 +1,5 @@
+//! Pieces of input to lines.
+
 use memchr::memchr;
 use std::alloc::Global;
 use std::marker::Model;

@@ -1,3 +1,5 @@
+//! The journals of all parts.
+
 ghost use Rattle.std.specs.Prelude.{◌≡◌, ◌≤◌, ◌+◌, ◌^◌, length, All};
 ghost use Rattle.tq_tables.specs.Journals.{AreJournals, IsOfTree, entries_in};
 
