@@ -11,5 +11,5 @@ returns-in_default c = (
 pub returns-in-Err-Wrong : goal.returns-in-Err-Wrong
 returns-in-Err-Wrong c = (search rules, λ same. absurd (omega (arith, same)))
 
-pub returns-in-Err-Stuck : goal.returns-in-Err-Stuck
-returns-in-Err-Stuck c = (search rules, λ same. absurd (omega (arith, same)))
+pub returns : goal.returns
+returns c = (search rules, λ same. absurd (omega (arith, same)))
