@@ -20,8 +20,8 @@ pub(crate) struct Numbered<A, R> {
     pub(crate) reply: R,
 }
 
-/// Asks the part of that name and of these settings in its cell, and puts the exchange behind those that the caller was told. Want of memory is
-/// not told of.
+/// Asks the part of that name and of these settings in its cell, and puts the exchange behind those that the caller was
+/// told. Want of memory is not told of.
 pub(crate) fn ask_part<P: Recorded, S: Settings<P>, R: Wait, G: Gate>(
     rt: &R,
     alloc: Global,
