@@ -1,5 +1,4 @@
 -- What is reserved beside the tables.
-use Rattle.std.specs.Prelude.{IfSome}
 use Rattle.std.specs.Global.{Box}
 use Rattle.std.proofs.Common.{◌≡◌, ℕ, List, Option, Some, None, ap, subst, sym, ◌∙◌, Bor}
 use Rattle.std.proofs.lemmas.Option.{none-some, same_Some}

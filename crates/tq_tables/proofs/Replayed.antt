@@ -1,7 +1,7 @@
 -- The parts as their journals leave them, one entry after another.
 use Rattle.std.specs.Prelude.{reverse}
-use Rattle.std.proofs.Common.{◌≡◌, ◌≤◌, ◌<◌, ◌+◌, ℕ, suc, List, [], ◌∷◌, ◌++◌, length, map, take, get_or, Option, Some, None, refl, sym, ap, subst, ◌∙◌, arith, length-take-le}
-use Rattle.std.proofs.lemmas.List.{length_push, length-map, map-append}
+use Rattle.std.proofs.Common.{◌≡◌, ◌≤◌, ◌<◌, ◌+◌, ℕ, suc, List, [], ◌∷◌, ◌++◌, length, take, get_or, Option, Some, None, refl, sym, ap, subst, ◌∙◌, arith, length-take-le}
+use Rattle.std.proofs.lemmas.List.{length_push}
 use Rattle.tq_shape.specs.Limits.{LimitsView}
 use Rattle.tq_shape.specs.Journal.{state_from}
 use Rattle.tq_shape.proofs.Joined.{state-push, state-reverse}
@@ -14,13 +14,12 @@ use Rattle.tq_desk.specs.declared.ask.DeskRefusal.{DeskRefusal}
 use Rattle.tq_desk.specs.DeskStep.{DeskView, desk_reply, desk_after, desk_refusal, desk_answered}
 use Rattle.tq_shape.specs.Steps.{state_at}
 use Rattle.tq_desk.specs.DeskStep as desk
-use Rattle.tq_desk.specs.DeskJournal.{DeskBounds, IsLegalDesk, desk_state, step_reply, step_after, DeskEntry}
-use Rattle.tq_desk.proofs.DecisionLog.{desk_keeps}
+use Rattle.tq_desk.specs.DeskJournal.{desk_state, step_reply, step_after, DeskEntry}
 use Rattle.tq_live.specs.Live.{Live}
 use Rattle.tq_live.specs.View.{view_after, view_reply_at, view_after_at, view_state}
-use Rattle.tq_tables.specs.Journals.{JournalsView, ViewEntry}
+use Rattle.tq_tables.specs.Journals.{ViewEntry}
 use Rattle.tq_node.specs.NodeJournal.{NodeEntry}
-use Rattle.tq_tables.specs.Parts.{PartsView, parts_of, node_at, desk_at, node_after_all, nodes_at, AreOfTree, bounds_of}
+use Rattle.tq_tables.specs.Parts.{node_at, desk_at, node_after_all, nodes_at, AreOfTree, bounds_of}
 use Rattle.tq_tables.proofs.RowLaws.{take-next}
 
 -- ---- servers

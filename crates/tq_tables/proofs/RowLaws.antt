@@ -1,14 +1,11 @@
 -- Rows as they are gathered, one after another.
-use Rattle.std.specs.Prelude.{reverse}
-use Rattle.std.proofs.Common.{◌≡◌, ℕ, zero, suc, ◌+◌, ◌≤◌, ◌<◌, Bool, true, false, cond, List, [], ◌∷◌, ◌++◌, length, map, filter, take, get_or, ap, sym, subst, ◌∙◌, arith}
+use Rattle.std.proofs.Common.{◌≡◌, ℕ, zero, suc, ◌+◌, ◌≤◌, ◌<◌, Bool, true, cond, List, [], ◌∷◌, ◌++◌, length, map, filter, take, get_or, ap, sym, subst, ◌∙◌, arith}
 use mathlib.Core.List.{map-map}
 use Rattle.std.specs.List.{All}
-use Rattle.std.proofs.lemmas.List.{append-nil, get_or-take, get_or_default, length-take, map-append, take_more}
+use Rattle.std.proofs.lemmas.List.{get_or-take, get_or_default, length-take, map-append, take_more}
 use Rattle.std.proofs.lemmas.List.Elements.{All-filter, All-map, filter-append}
 use Rattle.tq_shape.specs.ServerSet.{Servers}
 use Rattle.tq_shape.specs.Tree.{Server}
-use Rattle.tq_shape.proofs.Joined.{reverse-push}
-use Rattle.tq_desk.specs.DeskJournal.{commits, with_commit, DeskEntry}
 use Rattle.tq_live.specs.View.{upwards}
 use Rattle.tq_node.specs.Node.{NodeView}
 use Rattle.tq_tables.specs.Parts.{AreOfTree}

@@ -1,20 +1,17 @@
 -- The tables as a whole.
-use Rattle.std.specs.Prelude.{reverse}
-use Rattle.std.proofs.Common.{◌≡◌, ◌+◌, ◌-◌, ◌^◌, ◌<◌, ℕ, zero, suc, cond, slice_index_or, ◌&&◌, List, [], length, map, refl, ap, sym, subst, ◌∙◌, arith, nat_le}
-use mathlib.Core.List.{map-map}
+use Rattle.std.proofs.Common.{◌≡◌, ◌+◌, ◌-◌, ◌^◌, ◌<◌, ℕ, zero, suc, cond, slice_index_or, ◌&&◌, List, [], length, map, refl, ap, ◌∙◌, arith, nat_le}
 use Rattle.std.specs.FinMap as fin
-use Rattle.std.proofs.lemmas.List.{length-map, map-id}
+use Rattle.std.proofs.lemmas.List.{length-map}
 use Rattle.std.proofs.lemmas.List.Elements.{All-map}
 use Rattle.std.proofs.lemmas.Nat.{pow_pos}
 use Rattle.tq_desk.specs.DeskStep.{DeskView}
-use Rattle.tq_desk.specs.DeskJournal.{Commit, commits, DeskBounds, DeskEntry, IsLegalDesk, desk_state}
+use Rattle.tq_desk.specs.DeskJournal.{Commit, DeskBounds, DeskEntry, IsLegalDesk, desk_state}
 use Rattle.tq_desk.proofs.DecisionLog.{desk_keeps}
 use Rattle.tq_live.specs.Live.{Live}
 use Rattle.tq_live.specs.View.{upwards}
 use Rattle.tq_live.specs.declared.purpose.Purpose.{Purpose}
 use Rattle.tq_live.specs.declared.purpose.Purpose.TheVariants as purposes
 use Rattle.tq_node.specs.Node.{NodeView}
-use Rattle.tq_tables.specs.declared.intent_row.IntentState.{IntentState}
 use Rattle.tq_tables.specs.declared.intent_row.IntentState.TheVariants.{Unknown}
 use Rattle.tq_tables.specs.declared.file_row.FileRow.{FileRow}
 use Rattle.tq_tables.specs.DeskStates.{intent_state_at}
@@ -22,10 +19,8 @@ use Rattle.tq_shape.specs.Limits.{LimitsView}
 use Rattle.tq_tables.specs.Journals.{no_entries}
 use Rattle.tq_tables.specs.Parts.{PartsView, bounds_of, desk_at, parts_of}
 use Rattle.tq_tables.specs.Tables.{tables_at, tables_of}
-use Rattle.tq_tables.specs.Files.{AreExact, AreOfLevels, IsOfLevels, names_in}
-use Rattle.tq_tables.specs.NamesApart.{Apart}
-use Rattle.tq_tables.proofs.Counting.{Apart-files_in}
-use Rattle.tq_tables.specs.Rows.{file_row, file_rows, files_in, intent_rows, intent_state, least_for, least_in, least_row, no_quorums, quorum_row, quorum_rows, row_at, state_by}
+use Rattle.tq_tables.specs.Files.{AreExact}
+use Rattle.tq_tables.specs.Rows.{file_row, intent_rows, intent_state, least_for, least_in, least_row, no_quorums, quorum_row, quorum_rows, row_at, state_by}
 
 length-upwards : (first count : ℕ) → length (upwards first count) ≡ count
 length-upwards first zero = refl

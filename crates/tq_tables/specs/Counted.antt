@@ -1,5 +1,5 @@
 -- How many commits write each file, as it is counted one commit after another.
-use Rattle.std.specs.Prelude.{◌==◌, ◌+◌, ℕ, List, map, fold, reverse}
+use Rattle.std.specs.Prelude.{◌==◌, ◌+◌, ℕ, List, map, fold}
 use Rattle.std.specs.Cmp.Lexicographic.{pointwise}
 use Rattle.std.specs.FinMap as fin
 use Rattle.std.specs.Map.{lookup}
@@ -7,7 +7,7 @@ use Rattle.std.specs.Option.{unwrap_or}
 use Rattle.indexmap.specs.IndexMap.{insert_entry}
 use Rattle.tq_evidence.specs.declared.op.Op.{Op}
 use Rattle.tq_desk.specs.DeskStep.{with_files}
-use Rattle.tq_desk.specs.DeskJournal.{Commit, DeskEntry, commits, count}
+use Rattle.tq_desk.specs.DeskJournal.{Commit, commits, count}
 use Rattle.tq_tables.specs.Rows.{files_in}
 use Rattle.tq_tables.specs.declared.file_row.FileRow.{FileRow}
 

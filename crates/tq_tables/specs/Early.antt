@@ -1,7 +1,7 @@
 -- The servers that may have a copy of a file before a commit of it is followed, so that it has no row.
 use Rattle.std.specs.Prelude.{◌≡◌, ◌≤◌, ℕ, Bool, true, false, List, length}
 use Rattle.std.specs.List.{All, AllByRecursion}
-use Rattle.tq_shape.specs.ServerSet.{Servers, has_number}
+use Rattle.tq_shape.specs.ServerSet.{has_number}
 use Rattle.tq_node.specs.Node.{NodeView}
 use Rattle.tq_tables.specs.Files.{names_in, put_in}
 use Rattle.tq_tables.specs.NamesApart.{is_in}

@@ -14,7 +14,7 @@ use Rattle.tq_desk.specs.DeskStep.{DeskView, desk_after}
 use Rattle.tq_desk.specs.DeskStep as desk
 use Rattle.tq_desk.specs.Views.{desk_code}
 use Rattle.tq_desk.specs.DeskChanges.{desk_changed}
-use Rattle.tq_desk.specs.DeskJournal.{DeskBounds, IsLegalDesk, DeskEntry, desk_state}
+use Rattle.tq_desk.specs.DeskJournal.{DeskBounds, IsLegalDesk, DeskEntry}
 use Rattle.tq_desk.specs.declared.change.DeskChange.{DeskChange}
 use Rattle.tq_live.specs.Live.{Live}
 use Rattle.tq_live.specs.Costs.{costs_code}

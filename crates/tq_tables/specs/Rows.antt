@@ -1,5 +1,5 @@
 -- The rows of the tables, over the raw records of the servers, the costs and marks, and the log of the desk.
-use Rattle.std.specs.Prelude.{ℕ, ◌-◌, ◌^◌, Bool, not, cond, nat_le, List, [], ◌∷◌, ◌++◌, map, filter, Option, Some, None, reverse, slice_index_or, sum_by}
+use Rattle.std.specs.Prelude.{ℕ, ◌-◌, ◌^◌, Bool, not, cond, nat_le, List, [], ◌∷◌, ◌++◌, map, filter, Option, Some, None, slice_index_or, sum_by}
 use Rattle.std.specs.FinMap as fin
 use Rattle.std.specs.List.{flat_map}
 use Rattle.std.specs.Option.{option_map}

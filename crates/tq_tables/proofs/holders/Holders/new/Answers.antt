@@ -1,5 +1,4 @@
 use Rattle.std.proofs.Common.{sym, subst}
-use Rattle.std.specs.Prelude.{IfOk}
 use Rattle.tq_tables.specs.Parts.{AreOfTree}
 use Rattle.tq_tables.proofs.Held.{none-held}
 use Rattle.tq_tables.proofs.Replayed.{AreOfTree-nodes_at}

@@ -1,4 +1,4 @@
-use Rattle.std.proofs.Common.{◌≡◌, ap, sym, subst, ◌∙◌}
+use Rattle.std.proofs.Common.{ap, sym, subst, ◌∙◌}
 use Rattle.tq_tables.specs.NextEntry.{IsNextEntry}
 use Rattle.tq_tables.specs.Reserved.{AreFollowed, ready_entry, reserved_entry, tables_in, unready, with_ready}
 use Rattle.tq_tables.specs.Tables.{TablesView}
