@@ -1,3 +1,5 @@
+//! Which part a cell is to hold.
+
 use tq_part::Answers;
 
 /// What a part in a cell is to be, as no ask changes it: a server which one, a desk of which limits.

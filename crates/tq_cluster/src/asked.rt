@@ -1,3 +1,5 @@
+//! A call of any part in its cell.
+
 ghost use Rattle.std.specs.Prelude.{◌≡◌, ◌++◌, ◌⊎◌, max, IfOk, IfErr, OnErr};
 ghost use Rattle.tq_cells.specs.Passes.{IsToldByOneOf};
 ghost use Rattle.tq_cluster.specs.Told.{exchanges_of};
@@ -18,8 +20,8 @@ pub(crate) struct Numbered<A, R> {
     pub(crate) reply: R,
 }
 
-/// Asks the part of that name and of these settings in its cell, and puts the exchange behind those that the caller was told. Want of memory is
-/// not told of.
+/// Asks the part of that name and of these settings in its cell, and puts the exchange behind those that the caller was
+/// told. Want of memory is not told of.
 pub(crate) fn ask_part<P: Recorded, S: Settings<P>, R: Wait, G: Gate>(
     rt: &R,
     alloc: Global,

@@ -1,3 +1,5 @@
+//! Which part of a cluster each cell is to hold.
+
 ghost use Rattle.tq_cluster.specs.Own.{IsDeskOf, IsServerOf, IsViewOf};
 
 use tq_cells::Settings;
