@@ -53,6 +53,13 @@ impl<P: Answers> Held<P> {
         self.journaled.entries().len() == self.limit as usize
     }
 
+    /// The part as its journal leaves it.
+    pub(crate) fn part(&self) -> &P
+        ensures { result.now ≡ self.now.part }
+    {
+        self.journaled.part()
+    }
+
     /// Asks the part under the next number, and enters what it replies into the journal. The part judges the ask once, and
     /// both copies of the entry are made before it changes. Answers `JournalFull` with the ask where the journal has as
     /// many entries as its limit, before any memory is asked for, and `Memory` where memory is refused. At a fault all is

@@ -8,11 +8,13 @@ mod gate;
 mod held;
 mod pass;
 mod receipt;
+mod settings;
 mod told;
 
 pub use cell::Cell;
 pub use gate::{Gate, OpenGate};
 pub use pass::Pass;
 pub use receipt::Receipt;
+pub use settings::Settings;
 pub use told::{Twice, Untaken};
 pub use tq_part::{Answers, Fault as CallFault};

@@ -14,7 +14,7 @@ use tq_txn::Exchange;
 /// One who asks the parts of a cluster: a pass for each part, and what it was told of its asks, in their order. All of
 /// this was told by parts.
 pub struct Caller {
-    levels: Levels,
+    pub(crate) levels: Levels,
     pub(crate) servers: Vec<Pass<Node>>,
     pub(crate) desk: Pass<Desk>,
     pub(crate) view: Pass<View>,
@@ -51,7 +51,7 @@ impl Model for Caller {
     } };
 
     ghost invariant = { λ c.
-        (length c.servers.items + 1 ≡ 2 ^ c.levels) × AreOfParts c.told.items };
+        (length c.servers.items + 1 ≡ 2 ^ c.levels) × AreOfParts c.levels c.told.items };
 }
 
 impl Caller {

@@ -1,6 +1,6 @@
 //! The running cluster: each part of a system in a cell of its own, and callers that many threads may have.
 //!
-//! Definitions: `specs/Cluster`, `Told`, `Pulls`, `Rounds`, `Clients`, `Closes`; `Backwards` is the code's own word.
+//! Definitions: `specs/Cluster`, `Own`, `Told`, `Pulls`, `Rounds`, `Clients`, `Closes`; `Backwards` is the code's own word.
 #![tactic(auto)]
 
 mod asked;
@@ -12,6 +12,7 @@ mod cluster;
 mod explained;
 mod journals;
 mod live_board;
+mod own;
 mod recorded;
 mod rounds;
 mod workers;

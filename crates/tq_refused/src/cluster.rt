@@ -8,8 +8,9 @@ use crate::service::step_at;
 use crate::wrong::Wrong;
 use std::alloc::Global;
 use std::sync::Wait;
+use std::thread::Threads;
 use tq_cells::OpenGate;
-use tq_cluster::{Caller, CloseFault, Cluster, Explained, LiveBoard, PullFault};
+use tq_cluster::{Caller, CloseFault, Cluster, Explained, LiveBoard, PullFault, Ran};
 use tq_core::Step;
 use tq_part::AskFault;
 use tq_shape::Part;
@@ -92,6 +93,27 @@ fn pulled(board: &LiveBoard, part: Part) -> usize
         Part::Desk => board.desk().len(),
         Part::View => board.view().len(),
     }
+}
+
+/// Makes one round with no script and no worker, and prints whether memory was refused, and how many callers came back.
+pub(crate) fn round<H: Threads + Wait + Sync>(
+    rt: &HostRuntime,
+    handle: &H,
+    journals: &Journals,
+    order: &[Part],
+) -> Result<(), Wrong> {
+    let alloc = rt.alloc();
+    let cluster = new_cluster(alloc, journals)?;
+    let mut caller = new_caller(alloc, &cluster)?;
+    ask_all(handle, alloc, &cluster, &mut caller, journals, order)?;
+    let Ran {
+        callers,
+        memory,
+        whole,
+    } = cluster.run_clients(handle, alloc, Vec::new(alloc), 0, 1);
+    let count = callers.len();
+    let _printed = println!(rt; "memory {memory} whole {whole} callers {count}");
+    Ok(())
 }
 
 /// Closes the cluster, and prints its journals. Where memory is refused the cluster is gone, and another one is closed.

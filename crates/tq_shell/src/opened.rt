@@ -5,7 +5,6 @@ ghost use Rattle.tq_shell.specs.Rehearsal.{IsOpened};
 use crate::audit_finding::AuditFinding;
 use crate::upgrading::found_in;
 use std::alloc::{AllocError, Global};
-use std::mem;
 use tq_core::Service;
 use tq_merge::{Fault, explain};
 use tq_shape::Memory;
@@ -20,7 +19,7 @@ pub(crate) enum Opened {
 }
 
 /// The service of the journals that these bytes are a file of, if one sequential run explains them.
-pub(crate) fn opened(alloc: Global, bytes: Vec<u8>) -> Result<Opened, Memory>
+pub(crate) fn open_service(alloc: Global, bytes: Vec<u8>) -> Result<Opened, Memory>
     ensures { IfOk result (IsOpened bytes.items) }
 {
     let found = found_in(alloc, bytes.as_slice())?;
@@ -30,15 +29,17 @@ pub(crate) fn opened(alloc: Global, bytes: Vec<u8>) -> Result<Opened, Memory>
             finding: AuditFinding::Unreadable,
         });
     };
-    let finding = match explain(alloc, &journals) {
+    match explain(alloc, &journals) {
         Ok(_order) => {
             let service = Service::resume(alloc, journals)?;
-            return Ok(Opened::Ready { service });
+            Ok(Opened::Ready { service })
         }
-        Err(Fault::Memory) => return Err(AllocError),
-        Err(Fault::Wrong { part, number }) => AuditFinding::Wrong { part, number },
-        Err(Fault::Stuck { placed }) => AuditFinding::Stuck { placed },
-    };
-    mem::forget(journals);
-    Ok(Opened::Refused { finding })
+        Err(Fault::Memory) => Err(AllocError),
+        Err(Fault::Wrong { part, number }) => Ok(Opened::Refused {
+            finding: AuditFinding::Wrong { part, number },
+        }),
+        Err(Fault::Stuck { placed }) => Ok(Opened::Refused {
+            finding: AuditFinding::Stuck { placed },
+        }),
+    }
 }

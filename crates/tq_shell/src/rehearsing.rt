@@ -3,7 +3,7 @@ ghost use Rattle.std.specs.Prelude.{◌≡◌, ◌-◌, ◌^◌, ◌<◌, ℕ, L
 ghost use Rattle.std.specs.Io.KnownBytes.{Appends};
 ghost use Rattle.tq_shell.specs.Rehearsal.{IsRehearsalCount, IsRehearsalText};
 
-use crate::opened::{Opened, opened};
+use crate::opened::{Opened, open_service};
 use crate::reading::read_all;
 use crate::receiver::Receiver;
 use crate::session::answer_pieces;
@@ -37,7 +37,7 @@ pub fn rehearse<J: Source, R: Source, W: Sink>(
         (R.failed lines.old) (R.failed lines.new) (W.failed writer.old) (W.failed writer.new) }
 {
     let bytes = read_all(alloc, journals)?;
-    match opened(alloc, bytes)? {
+    match open_service(alloc, bytes)? {
         Opened::Ready { service } => {
             let mut receiver = Receiver::new(alloc, Shell::over(alloc, service));
             let ran = answer_pieces(alloc, &mut receiver, lines, writer);

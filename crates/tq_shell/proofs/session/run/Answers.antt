@@ -1,7 +1,7 @@
-use Rattle.std.proofs.Common.{◌∙◌, ap, rules, subst, sym}
+use Rattle.std.proofs.Common.{◌∙◌, ap, rules, subst}
 use Rattle.tq_devices.specs.declared.fault.RunFault.TheVariants.{Memory}
 use Rattle.tq_interpreter.specs.Answer.{World, opening}
-use Rattle.tq_shell.specs.Stream.{Received, nothing_received}
+use Rattle.tq_shell.specs.Stream.{Received}
 use Rattle.tq_shell.proofs.SessionLaws.{HasRun, by_fault, ends_before}
 use Rattle.tq_shell.proofs.session.run.Goals as goal
 
@@ -11,9 +11,6 @@ returns-in_err-shell-clause-text g c =
     let ended = g.R.Source.is_ended c.args.reader.now in
     let taken = g.W.Sink.taken in
     by_fault c.from_residual.result Memory (opening c.args.levels) ended _ _ _ _ (search rules) (ends_before (opening c.args.levels) ended (given c.args.reader.now) (taken c.args.writer.now))
-
-pub answer_pieces-requires-new : goal.answer_pieces-requires-new
-answer_pieces-requires-new g c = c.new-receiver.ensures ∙ ap nothing_received (sym (ap (λ (r : Received). r.world) c.new-receiver.ensures))
 
 pub returns-clause-text : goal.returns-clause-text
 returns-clause-text g c =
