@@ -1,3 +1,5 @@
+//! The lock of a part, and what is asked under it.
+
 ghost use Rattle.std.specs.Prelude.{◌≡◌, ◌+◌, ◌∷◌, ◌++◌, [], ◌≤◌, ◌<◌, List, drop, max, vec_len, IfOk, IfErr, OnErr};
 ghost use Rattle.tq_shape.specs.declared.entry.Entry.{Entry};
 ghost use Rattle.tq_shape.specs.Journal.{IsLegalFrom};

@@ -1,3 +1,5 @@
+//! What lies under the lock of a cell: the part and its journal.
+
 ghost use Rattle.std.specs.Prelude.{◌≡◌, ◌+◌, ◌∷◌, ◌++◌, [], ◌≤◌, ◌<◌, ◌↔◌, IsTrue, length, drop, max, vec_len, IfOk, IfErr, OnErr, IsErrOf};
 ghost use Rattle.tq_shape.specs.Journal.{IsLegalFrom, entry};
 ghost use Rattle.tq_part.specs.Agrees.{standing_part};

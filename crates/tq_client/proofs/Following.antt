@@ -1,29 +1,29 @@
 -- Parts of a dialogue after one another, whatever each ends with.
-use Rattle.std.proofs.Common.{◌≡◌, ℕ, Bool, true, false, List, [], ◌∷◌, ◌++◌, Option, Some, None, Result, Ok, Err, refl, sym, ap, ◌∙◌, subst, inl, inr, append_assoc, append-nil, ◌+◌, ◌<◌, ◌≤◌, length, get_or, drop, arith}
+use Rattle.std.proofs.Common.{◌≡◌, ℕ, Bool, true, false, cond, List, ◌∷◌, Option, Some, None, Result, Ok, Err, sym, ap, ◌∙◌, subst, ◌+◌, ◌<◌, ◌≤◌, length, get_or, drop, arith}
 use Rattle.tq_shape.specs.Limits.{LimitsView}
-use Rattle.tq_txn_states.specs.Open.{OpenView}
+use Rattle.tq_shape.specs.Journal.{is_empty}
+use Rattle.tq_txn_states.specs.Open.{OpenView, close_fault}
+use Rattle.tq_txn_states.specs.Voting.{VotingView, voting_of}
+use Rattle.tq_txn_states.specs.declared.fault.TxnFault.{TxnFault}
+use Rattle.tq_txn_states.specs.declared.fault.TxnFault.TheVariants.{NoOps}
+use Rattle.tq_txn.specs.declared.txn.Txn.TheVariants as states
 use Rattle.tq_txn.specs.declared.asker.Exchange.{Exchange}
-use Rattle.tq_txn.specs.declared.asker.Exchange.TheVariants as exchanges
 use Rattle.tq_part.specs.declared.fault.AskFault.{AskFault}
 use Rattle.tq_part.specs.declared.fault.AskFault.TheVariants as ask_faults
 use Rattle.tq_txn.specs.declared.asker.ViewTold.{ViewTold}
 use Rattle.tq_txn.specs.declared.fault.LineFault.{LineFault}
 use Rattle.tq_txn.specs.declared.fault.LineFault.TheVariants as faults
-use Rattle.tq_txn.specs.Dialogue.{Dialogue, Ends, AsksNode, AsksDesk, AsksView, Begins, Follows, LineEnd, then_line, ended_by, line_result}
-use Rattle.tq_txn.proofs.LineLaws.{begins_then, follows_end, follows_node, follows_desk, follows_then, follows_view}
+use Rattle.tq_txn.specs.Dialogue.{Dialogue, Ends, Follows, LineEnd, then_line, ended_by, line_result}
+use Rattle.tq_txn.proofs.LineLaws.{begins_then, follows_end, follows_then}
 use Rattle.std.proofs.lemmas.List.{drop_more, at_drop_all}
 use Rattle.tq_shape.specs.Tree.{Server, IsServer}
 use Rattle.tq_live.specs.View.{is_server}
 use Rattle.tq_syntax.specs.declared.script.Line.{Line}
-use Rattle.tq_client.specs.Script.{leaving, view_wait, was_answered, is_answered, server_marked, mark_asked, closing, line_asked, script_asked}
+use Rattle.tq_client.specs.Script.{closing, commit_asked, given_up, is_answered, line_asked, mark_asked, script_asked, server_marked, view_wait, voting_asked, was_answered}
 
 -- memory ran out in the first part
 pub follows_cut : {A B : Type 0} (line : Dialogue A) (next : A → Dialogue B) (old new : List Exchange) → Follows line old new None → Follows (then_line line next) old new None
 follows_cut line next old new first = (first.0, first.1, begins_then line next first.0 first.2)
-
--- the rest takes no asks, and leaves this
-pub follows_leaving : {S : Type 0} (line : Dialogue (Unit {0})) (after : S) (old new : List Exchange) → Follows line old new (Some tt) → Follows (leaving after line) old new (Some after)
-follows_leaving line after old new first = follows_then line (λ asked. Ends after) tt old new new (Some after) first (follows_end after new)
 
 -- ---- a line that was answered, refused, or cut off
 
@@ -44,6 +44,16 @@ module _ {A S B : Type 0} (line : Dialogue (LineEnd A S)) (next : Bool → S →
   follows_went_out (Ok a) after old new is first = absurd cc
   follows_went_out (Err faults.Memory) after old new is first = follows_cut line (λ e. next (is_answered e.answer) e.after) old new first
   follows_went_out (Err fault) after old new is first = absurd cc
+
+-- what read or wrote something is voted on
+pub follows_closed : (txn : OpenView) (voting : VotingView) (old new : List Exchange) (end : Option (Option OpenView)) → close_fault txn ≡ None → voting ≡ voting_of txn → Follows (voting_asked voting) old new end → Follows (commit_asked txn) old new end
+follows_closed txn voting old new end none same follows =
+    let no_fault : Option TxnFault = None in
+    let P : VotingView → Type 0 = λ v. Follows (voting_asked v) old new end in
+    elim (is_empty txn.ops) as (λ b. cond b (Some NoOps) no_fault ≡ None → Follows (cond b (given_up (states.Open txn)) (voting_asked (voting_of txn))) old new end) [
+      | true ↦ λ is. absurd cc
+      | false ↦ λ is. subst P same follows
+    ] none
 
 -- ---- the view's answer is passed over
 
@@ -80,7 +90,7 @@ module _ (levels : ℕ) (limits : LimitsView) (lines : List Line) (index : ℕ) 
       subst P (sym whole) (follows_cut (line_asked levels limits line txn) (λ t. script_asked levels limits (drop (index + 1) lines) t) old new first)
 
   -- no line is left
-  pub no_line : (txn : Option OpenView) (old new : List Exchange) (end : Option (Unit {0})) → length lines ≤ index → Follows (closing txn) old new end → Follows (script_asked levels limits (drop index lines) txn) old new end
+  pub no_line : (txn : Option OpenView) (old new : List Exchange) (end : Option (Unit {0})) → length lines ≤ index → Follows (then_line (closing txn) (λ none. Ends tt)) old new end → Follows (script_asked levels limits (drop index lines) txn) old new end
   no_line txn old new end over follows =
       let P : Dialogue (Unit {0}) → Type 0 = λ d. Follows d old new end in
       subst P (sym (at_drop_all (λ ls. script_asked levels limits ls txn) lines index over)) follows

@@ -71,13 +71,13 @@ abbrev pub is_answered : {A : Type 0} → Result A LineFault → Bool
 is_answered (Ok a) = true
 is_answered (Err fault) = false
 
--- a transaction is aborted, whatever is answered
-abbrev pub given_up : Txn → Dialogue (Unit {0})
-given_up txn = then_line (abort_line txn) (λ end. Ends tt)
+-- a transaction is aborted, whatever is answered, and none is left open
+abbrev pub given_up : Txn → Dialogue (Option OpenView)
+given_up txn = then_line (abort_line txn) (λ end. Ends None)
 
 -- what is open is aborted
-abbrev pub closing : Option OpenView → Dialogue (Unit {0})
-closing None = Ends tt
+abbrev pub closing : Option OpenView → Dialogue (Option OpenView)
+closing None = Ends None
 closing (Some txn) = given_up (states.Open txn)
 
 -- the transaction that the desk's reply begins; none where it refuses
@@ -100,14 +100,14 @@ txn_of_answer levels limits (Err fault) = Some None
 
 -- a transaction begins, after the one that is open was aborted
 abbrev pub begin_asked : ℕ → LimitsView → Option OpenView → Dialogue (Option OpenView)
-begin_asked levels limits txn = then_line (closing txn) (λ closed. desk_begun levels limits)
+begin_asked levels limits txn = then_line (closing txn) (λ none. desk_begun levels limits)
 
 -- ---- the lines of the open transaction
 
 -- it stays open after what was answered; what was refused aborts it
 abbrev pub after : Bool → OpenView → Dialogue (Option OpenView)
 after true txn = Ends (Some txn)
-after false txn = leaving None (given_up (states.Open txn))
+after false txn = given_up (states.Open txn)
 
 abbrev pub read_asked : List ℕ → OpenView → Dialogue (Option OpenView)
 read_asked file txn = then_line (read_line txn file) (λ end. after (is_answered end.answer) end.after)
@@ -116,15 +116,15 @@ abbrev pub write_asked : List ℕ → List ℕ → OpenView → Dialogue (Option
 write_asked file content txn = then_line (write_line txn file content) (λ end. after (is_answered end.answer) end.after)
 
 -- a commit that is refused aborts
-abbrev pub after_commit : Bool → Txn → Dialogue (Unit {0})
-after_commit true txn = Ends tt
+abbrev pub after_commit : Bool → Txn → Dialogue (Option OpenView)
+after_commit true txn = Ends None
 after_commit false txn = given_up txn
 
-abbrev pub voting_asked : VotingView → Dialogue (Unit {0})
+abbrev pub voting_asked : VotingView → Dialogue (Option OpenView)
 voting_asked voting = then_line (commit_line voting) (λ end. after_commit (is_answered end.answer) end.after)
 
 -- a transaction that read and wrote nothing has nothing to commit: that is refused, too
-abbrev pub commit_asked : OpenView → Dialogue (Unit {0})
+abbrev pub commit_asked : OpenView → Dialogue (Option OpenView)
 commit_asked txn = cond (is_empty txn.ops) (given_up (states.Open txn)) (voting_asked (voting_of txn))
 
 -- where no transaction is open nothing is asked
@@ -143,10 +143,10 @@ line_asked levels limits (is.Choose purpose) txn = leaving txn (view_asked (view
 line_asked levels limits is.Begin txn = begin_asked levels limits txn
 line_asked levels limits (is.Read file) txn = in_open (read_asked file) txn
 line_asked levels limits (is.Write file content) txn = in_open (write_asked file content) txn
-line_asked levels limits is.Commit txn = in_open (λ t. leaving None (commit_asked t)) txn
-line_asked levels limits is.Abort txn = in_open (λ t. leaving None (given_up (states.Open t))) txn
+line_asked levels limits is.Commit txn = in_open commit_asked txn
+line_asked levels limits is.Abort txn = closing txn
 
 -- the lines one after another; a transaction that is open at the end is aborted
 abbrev pub script_asked : ℕ → LimitsView → List Line → Option OpenView → Dialogue (Unit {0})
-script_asked levels limits [] txn = closing txn
+script_asked levels limits [] txn = then_line (closing txn) (λ none. Ends tt)
 script_asked levels limits (line ∷ lines) txn = then_line (line_asked levels limits line txn) (λ left. script_asked levels limits lines left)

@@ -1,10 +1,12 @@
+//! A client's script, line by line.
+
 ghost use Rattle.std.specs.Prelude.{◌≡◌, None, IfSome, IfOk};
 ghost use Rattle.std.specs.Result.{result_ok};
 ghost use Rattle.tq_txn.specs.Dialogue.{Follows};
 ghost use Rattle.tq_client.specs.Script as spec;
 
 use crate::operating::{ask_view, mark};
-use crate::transacting::{abort_open, begin, close, commit_open, read, write};
+use crate::transacting::{begin, close, commit_open, read, write};
 use std::alloc::Global;
 use tq_live::ViewAsk;
 use tq_shape::{Levels, Limits, Memory};
@@ -32,7 +34,8 @@ pub fn run_script<A: Asker>(
     for line in lines {
         open_txn = run_line(asker, alloc, levels, limits, open_txn, line)?;
     }
-    close(asker, alloc, open_txn)
+    let _none = close(asker, alloc, open_txn)?;
+    Ok(())
 }
 
 /// Runs a line, and answers the transaction that is open then.
@@ -74,7 +77,7 @@ fn run_line<A: Asker>(
         Line::Read { file } => read(asker, alloc, open_txn, file),
         Line::Write { file, content } => write(asker, alloc, open_txn, file, content),
         Line::Commit => commit_open(asker, alloc, open_txn),
-        Line::Abort => abort_open(asker, alloc, open_txn),
+        Line::Abort => close(asker, alloc, open_txn),
     }
 }
 

@@ -10,8 +10,8 @@ use tq_desk::{DeskAsk, DeskReply};
 use tq_shape::{Levels, Limits, Memory};
 use tq_store::{Content, FileName};
 use tq_txn::{
-    Abortion, AskFault, Asker, Decision, DeskTold, LineFault, Open, Txn, Voting, abort, commit,
-    read_file, write_file,
+    Abortion, AskFault, Asker, Decision, DeskTold, LineFault, Open, Txn, abort, commit, read_file,
+    write_file,
 };
 
 /// Whether a line was answered, and not refused.
@@ -25,11 +25,12 @@ fn was_answered<T: Drop>(answer: Result<T, LineFault>) -> Result<bool, Memory>
     }
 }
 
-/// Aborts a transaction, whatever is answered.
-fn abort_ignoring_answer<A: Asker>(asker: &mut A, alloc: Global, txn: Txn) -> Result<(), Memory>
+/// Aborts a transaction, whatever is answered: then none is open.
+fn give_up<A: Asker>(asker: &mut A, alloc: Global, txn: Txn) -> Result<Option<Open>, Memory>
     requires { levels_of txn ≡ A.levels asker.old }
     ensures asks { Follows (spec.given_up txn)
         (A.told asker.old) (A.told asker.new) (result_ok result) }
+    ensures none { IfOk result (λ left. left ≡ None) }
     ensures tree { A.levels asker.new ≡ A.levels asker.old }
 {
     let Abortion {
@@ -37,23 +38,24 @@ fn abort_ignoring_answer<A: Asker>(asker: &mut A, alloc: Global, txn: Txn) -> Re
         txn: _ended,
     } = abort(asker, alloc, txn);
     let _done = was_answered(answer)?;
-    Ok(())
+    Ok(None)
 }
 
-/// Aborts the transaction that is open, if one is.
+/// Aborts the transaction that is open, if one is: then none is.
 pub(crate) fn close<A: Asker>(
     asker: &mut A,
     alloc: Global,
     open_txn: Option<Open>,
-) -> Result<(), Memory>
+) -> Result<Option<Open>, Memory>
     requires { IfSome open_txn (λ o. o.levels ≡ A.levels asker.old) }
     ensures asks { Follows (spec.closing open_txn)
         (A.told asker.old) (A.told asker.new) (result_ok result) }
+    ensures none { IfOk result (λ left. left ≡ None) }
     ensures tree { A.levels asker.new ≡ A.levels asker.old }
 {
     match open_txn {
-        Some(txn) => abort_ignoring_answer(asker, alloc, Txn::Open(txn)),
-        None => Ok(()),
+        Some(txn) => give_up(asker, alloc, Txn::Open(txn)),
+        None => Ok(None),
     }
 }
 
@@ -99,7 +101,7 @@ pub(crate) fn begin<A: Asker>(
     ensures levels { IfOk result (λ txn. IfSome txn (λ o. o.levels ≡ levels)) }
     ensures tree { A.levels asker.new ≡ A.levels asker.old }
 {
-    close(asker, alloc, open_txn)?;
+    let _none = close(asker, alloc, open_txn)?;
     ask_begin(asker, alloc, levels, limits)
 }
 
@@ -134,18 +136,7 @@ fn after<A: Asker>(
     if answered {
         return Ok(Some(open_txn));
     }
-    abort_in(asker, alloc, open_txn)
-}
-
-fn abort_in<A: Asker>(asker: &mut A, alloc: Global, open_txn: Open) -> Result<Option<Open>, Memory>
-    requires { open_txn.levels ≡ A.levels asker.old }
-    ensures asks { Follows (spec.leaving None (spec.given_up (Txn.Open open_txn)))
-        (A.told asker.old) (A.told asker.new) (result_ok result) }
-    ensures none { IfOk result (λ txn. txn ≡ None) }
-    ensures tree { A.levels asker.new ≡ A.levels asker.old }
-{
-    abort_ignoring_answer(asker, alloc, Txn::Open(open_txn))?;
-    Ok(None)
+    give_up(asker, alloc, Txn::Open(open_txn))
 }
 
 /// Reads a file in the transaction that is open, if one is.
@@ -161,25 +152,10 @@ pub(crate) fn read<A: Asker>(
     ensures levels { IfOk result (λ txn. IfSome txn (λ o. o.levels ≡ A.levels asker.old)) }
     ensures tree { A.levels asker.new ≡ A.levels asker.old }
 {
-    match open_txn {
-        Some(txn) => read_in(asker, alloc, txn, file),
-        None => Ok(None),
-    }
-}
-
-fn read_in<A: Asker>(
-    asker: &mut A,
-    alloc: Global,
-    open_txn: Open,
-    file: &FileName,
-) -> Result<Option<Open>, Memory>
-    requires { open_txn.levels ≡ A.levels asker.old }
-    ensures asks { Follows (spec.read_asked file.now open_txn)
-        (A.told asker.old) (A.told asker.new) (result_ok result) }
-    ensures levels { IfOk result (λ txn. IfSome txn (λ o. o.levels ≡ A.levels asker.old)) }
-    ensures tree { A.levels asker.new ≡ A.levels asker.old }
-{
-    let mut reader = open_txn;
+    let Some(txn) = open_txn else {
+        return Ok(None);
+    };
+    let mut reader = txn;
     let answer = read_file(asker, alloc, &mut reader, file);
     let answered = was_answered(answer)?;
     after(asker, alloc, reader, answered)
@@ -199,27 +175,11 @@ pub(crate) fn write<A: Asker>(
     ensures levels { IfOk result (λ txn. IfSome txn (λ o. o.levels ≡ A.levels asker.old)) }
     ensures tree { A.levels asker.new ≡ A.levels asker.old }
 {
-    match open_txn {
-        Some(txn) => write_in(asker, alloc, txn, file, content),
-        None => Ok(None),
-    }
-}
-
-fn write_in<A: Asker>(
-    asker: &mut A,
-    alloc: Global,
-    open_txn: Open,
-    file: &FileName,
-    content: &Content,
-) -> Result<Option<Open>, Memory>
-    requires { open_txn.levels ≡ A.levels asker.old }
-    ensures asks { Follows (spec.write_asked file.now content.now open_txn)
-        (A.told asker.old) (A.told asker.new) (result_ok result) }
-    ensures levels { IfOk result (λ txn. IfSome txn (λ o. o.levels ≡ A.levels asker.old)) }
-    ensures tree { A.levels asker.new ≡ A.levels asker.old }
-{
+    let Some(txn) = open_txn else {
+        return Ok(None);
+    };
     let written = content.clone()?;
-    let mut writer = open_txn;
+    let mut writer = txn;
     let answer = write_file(asker, alloc, &mut writer, file, written);
     let answered = was_answered(answer)?;
     after(asker, alloc, writer, answered)
@@ -232,69 +192,22 @@ pub(crate) fn commit_open<A: Asker>(
     open_txn: Option<Open>,
 ) -> Result<Option<Open>, Memory>
     requires { IfSome open_txn (λ o. o.levels ≡ A.levels asker.old) }
-    ensures asks { Follows (spec.in_open (λ t. spec.leaving None (spec.commit_asked t)) open_txn)
+    ensures asks { Follows (spec.in_open spec.commit_asked open_txn)
         (A.told asker.old) (A.told asker.new) (result_ok result) }
-    ensures none { IfOk result (λ txn. txn ≡ None) }
+    ensures none { IfOk result (λ left. left ≡ None) }
     ensures tree { A.levels asker.new ≡ A.levels asker.old }
 {
-    match open_txn {
-        Some(txn) => commit_in(asker, alloc, txn),
-        None => Ok(None),
-    }
-}
-
-fn commit_in<A: Asker>(asker: &mut A, alloc: Global, open_txn: Open) -> Result<Option<Open>, Memory>
-    requires { open_txn.levels ≡ A.levels asker.old }
-    ensures asks { Follows (spec.leaving None (spec.commit_asked open_txn))
-        (A.told asker.old) (A.told asker.new) (result_ok result) }
-    ensures none { IfOk result (λ txn. txn ≡ None) }
-    ensures tree { A.levels asker.new ≡ A.levels asker.old }
-{
-    commit_or_abort(asker, alloc, open_txn)?;
-    Ok(None)
-}
-
-/// Aborts the transaction that is open, if one is.
-pub(crate) fn abort_open<A: Asker>(
-    asker: &mut A,
-    alloc: Global,
-    open_txn: Option<Open>,
-) -> Result<Option<Open>, Memory>
-    requires { IfSome open_txn (λ o. o.levels ≡ A.levels asker.old) }
-    ensures asks { Follows
-        (spec.in_open (λ t. spec.leaving None (spec.given_up (Txn.Open t))) open_txn)
-        (A.told asker.old) (A.told asker.new) (result_ok result) }
-    ensures none { IfOk result (λ txn. txn ≡ None) }
-    ensures tree { A.levels asker.new ≡ A.levels asker.old }
-{
-    match open_txn {
-        Some(txn) => abort_in(asker, alloc, txn),
-        None => Ok(None),
-    }
-}
-
-fn commit_or_abort<A: Asker>(asker: &mut A, alloc: Global, open_txn: Open) -> Result<(), Memory>
-    requires { open_txn.levels ≡ A.levels asker.old }
-    ensures asks { Follows (spec.commit_asked open_txn)
-        (A.told asker.old) (A.told asker.new) (result_ok result) }
-    ensures tree { A.levels asker.new ≡ A.levels asker.old }
-{
-    match open_txn.close() {
-        Ok(voting) => commit_voting(asker, alloc, voting),
-        Err(back) => abort_ignoring_answer(asker, alloc, Txn::Open(back.0)),
-    }
-}
-
-fn commit_voting<A: Asker>(asker: &mut A, alloc: Global, voting: Voting) -> Result<(), Memory>
-    requires { voting.txn.levels ≡ A.levels asker.old }
-    ensures asks { Follows (spec.voting_asked voting)
-        (A.told asker.old) (A.told asker.new) (result_ok result) }
-    ensures tree { A.levels asker.new ≡ A.levels asker.old }
-{
+    let Some(txn) = open_txn else {
+        return Ok(None);
+    };
+    let voting = match txn.close() {
+        Ok(voting) => voting,
+        Err(back) => return give_up(asker, alloc, Txn::Open(back.0)),
+    };
     let Decision { answer, txn } = commit(asker, alloc, voting);
     let answered = was_answered(answer)?;
     if answered {
-        return Ok(());
+        return Ok(None);
     }
-    abort_ignoring_answer(asker, alloc, txn)
+    give_up(asker, alloc, txn)
 }

@@ -1,3 +1,5 @@
+//! A call of any part in its cell.
+
 ghost use Rattle.std.specs.Prelude.{◌≡◌, ◌++◌, ◌⊎◌, max, IfOk, IfErr, OnErr};
 ghost use Rattle.tq_cells.specs.Passes.{IsToldBy};
 ghost use Rattle.tq_cluster.specs.Told.{exchanges_of};

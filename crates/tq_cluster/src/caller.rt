@@ -1,3 +1,5 @@
+//! A caller: a pass for each part, and what it was told.
+
 ghost use Rattle.std.specs.Prelude.{◌≡◌, ◌+◌, ◌^◌, [], map, vec_len};
 
 use std::alloc::Global;

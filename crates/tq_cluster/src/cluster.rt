@@ -1,3 +1,5 @@
+//! The cells of all parts, and the calls of each.
+
 ghost use Rattle.std.specs.Prelude.{◌≡◌, ◌≤◌, ◌<◌, ◌+◌, ◌^◌, ◌++◌, ℕ, [], length, map, replicate, IfOk, vec_len, vec_capacity};
 ghost use Rattle.tq_txn.specs.Dialogue.{node_exchange, desk_exchange, view_exchange};
 ghost use Rattle.tq_tables.specs.Parts.{AreLegal};

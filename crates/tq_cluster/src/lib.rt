@@ -1,8 +1,5 @@
 //! The running cluster: each part of a system in a cell of its own, and callers that many threads may have.
 //!
-//! Files: `cluster.rt` the cells and the three calls; `asked.rt`, `recorded.rt` a call of any part; `caller.rt`, `asking.rt` a
-//! caller; `clients.rt`, `workers.rt`, `rounds.rt` threads; `live_board.rt` a board; `close.rt`, `explained.rt`, `journals.rt`
-//! the close.
 //! Definitions: `specs/Cluster`, `Told`, `Pulls`, `Rounds`, `Clients`, `Closes`; `Backwards` is the code's own word.
 #![tactic(auto)]
 

@@ -1,3 +1,5 @@
+//! Rounds of refreshes: the board is pulled, and its jobs are put.
+
 ghost use Rattle.std.specs.Prelude.{◌≡◌, ◌≤◌, ◌<◌, ◌+◌, ℕ, [], ◌∷◌, ◌++◌, List, false, vec_len, vec_capacity};
 ghost use Rattle.std.specs.Bool.{OnTrue};
 ghost use Rattle.crossbeam_channel.specs.Claims.{view};

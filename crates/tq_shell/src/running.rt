@@ -1,3 +1,5 @@
+//! Client scripts run from their text to their journals.
+
 ghost use Rattle.std.specs.Prelude.{◌≤◌, IfOk, vec_len};
 ghost use Rattle.tq_shell.specs.Running.{IsOutcome, IsOutcomeOf};
 

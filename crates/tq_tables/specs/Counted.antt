@@ -19,10 +19,6 @@ names_of ops = fin.keys (with_files fin.empty ops)
 abbrev pub commit_counts : List Commit → List (List ℕ × ℕ)
 commit_counts commits = map (λ file. (file, count file commits)) (files_in commits)
 
--- those of the commits among entries of the desk, the oldest first
-abbrev pub counted_after : List DeskEntry → List (List ℕ × ℕ)
-counted_after entries = commit_counts (commits (reverse entries))
-
 -- the number that a file has among these, 0 where it is not among them
 abbrev pub count_in : List (List ℕ × ℕ) → List ℕ → ℕ
 count_in counts file = unwrap_or (lookup (pointwise (◌==◌) file) counts) 0

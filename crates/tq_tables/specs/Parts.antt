@@ -81,15 +81,6 @@ pub record AreLegal (journals : JournalsView) : Type 0 where
 
 -- ---- one part further
 
--- the server after the entries, one that has stored nothing before
-abbrev pub server_of_entries : NodeView → List NodeEntry → NodeView
-server_of_entries node entries = node_after_all node.levels node.server entries
-
--- the desk stands as a legal journal with these entries, the oldest first, leaves it
-pub record StandsAfter (desk : DeskView) (entries : List DeskEntry) : Type 0 where
-  pub legal : IsLegalDesk (bounds_of desk.levels desk.limits) (reverse entries)
-  pub stands : desk ≡ desk_state (bounds_of desk.levels desk.limits) (reverse entries)
-
 -- the parts after a change of the desk, and after an ask of the view
 abbrev pub with_change : PartsView → DeskChange → PartsView
 with_change parts change = record parts { desk = desk_changed parts.desk change }

@@ -106,10 +106,6 @@ file_row levels nodes commits file = row_at levels nodes file (count file commit
 abbrev pub file_rows : ℕ → List NodeView → List Commit → List FileRow
 file_rows levels nodes commits = map (file_row levels nodes commits) (files_in commits)
 
--- those of the commits among entries of the desk, the oldest first
-abbrev pub file_rows_after : ℕ → List NodeView → List DeskEntry → List FileRow
-file_rows_after levels nodes entries = file_rows levels nodes (commits (reverse entries))
-
 -- ---- the locks
 
 abbrev pub lock_row : NodeView → LockKey × Lock → LockRow

@@ -1,5 +1,5 @@
 -- How an abort ends.
-use Rattle.std.proofs.Common.{◌≡◌, ℕ, List, ◌++◌, Option, Some, Ok, Err, refl, sym, subst}
+use Rattle.std.proofs.Common.{◌≡◌, ℕ, List, ◌++◌, Option, Some, Result, Ok, Err, refl, sym, subst}
 use Rattle.tq_shape.specs.Tree.{Server}
 use Rattle.tq_coterie.specs.Coterie.{numbers_of}
 use Rattle.tq_part.specs.declared.fault.AskFault.{AskFault}
@@ -17,15 +17,13 @@ use Rattle.tq_txn.specs.States.{number_of}
 use Rattle.tq_txn.proofs.LineLaws.{follows_end, follows_on, follows_off, told_desk, refused_desk}
 
 module _ (ended : EndedView) (ids : List Server) (numbers : numbers_of ids ≡ ended.servers) (told after : List Exchange) where
-  pub aborted_off : (fault : LineFault) → Follows (ending_line ended (numbers_of ids)) told after (ended_by (Err fault) tt) → Follows (ending_of ended) told after (ended_by (Err fault) (states.Ended ended))
-  aborted_off fault first =
+  pub aborted : (answer : Result (Unit {0}) LineFault) → Follows (ending_line ended (numbers_of ids)) told after (ended_by answer tt) → Follows (ending_of ended) told after (ended_by answer (states.Ended ended))
+  aborted (Err fault) first =
       let P : List ℕ → Type 0 = λ ns. Follows (ending_line ended ns) told after (ended_by (Err fault) tt) in
       follows_off (ending_line ended ended.servers) (λ none. states.Ended ended) (λ all none. line_done tt (states.Ended ended)) fault tt (states.Ended ended) told after refl (subst P numbers first)
-
-  pub aborted_on : Follows (ending_line ended (numbers_of ids)) told after (Some (record { answer = Ok tt; after = tt })) → Follows (ending_of ended) told after (Some (record { answer = Ok tt; after = states.Ended ended }))
-  aborted_on first =
-      let P : List ℕ → Type 0 = λ ns. Follows (ending_line ended ns) told after (Some (record { answer = Ok tt; after = tt })) in
-      follows_on (ending_line ended ended.servers) (λ none. states.Ended ended) (λ all none. line_done tt (states.Ended ended)) tt tt told after after (Some (record { answer = Ok tt; after = states.Ended ended })) (subst P numbers first) (follows_end _ after)
+  aborted (Ok all) first =
+      let P : List ℕ → Type 0 = λ ns. Follows (ending_line ended ns) told after (Some (record { answer = Ok all; after = tt })) in
+      follows_on (ending_line ended ended.servers) (λ none. states.Ended ended) (λ each none. line_done tt (states.Ended ended)) all tt told after after (Some (record { answer = Ok all; after = states.Ended ended })) (subst P numbers first) (follows_end _ after)
 
 -- the desk was asked: it did not take the ask, or told how the transaction ended
 module _ (old : Txn) (number : ℕ) (is : number ≡ number_of old) (told after : List Exchange) where

@@ -9,3 +9,4 @@ pub mod Deskless
 pub mod CommitLaws
 pub mod AbortLaws
 pub mod LockingLaws
+pub mod EndingLaws

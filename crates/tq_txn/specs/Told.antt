@@ -12,6 +12,7 @@ use Rattle.tq_txn.specs.declared.asker.Exchange.{Exchange}
 use Rattle.tq_txn.specs.declared.asker.Exchange.TheVariants as exchanges
 use Rattle.tq_txn.specs.declared.txn.Txn.{Txn}
 use Rattle.tq_txn.specs.declared.txn.Txn.TheVariants as states
+use Rattle.tq_txn.specs.States.{IsStill, number_of}
 
 -- ---- how a transaction ended
 
@@ -73,6 +74,14 @@ Knows told (states.Ended old) = Unit {0}
 -- of a transaction in this state all that it keeps is told also afterwards
 abbrev pub IsKnown : {S : Type 0} → (S → Txn) → List Exchange → List Exchange → S → S → Type 0
 IsKnown state told later old new = Knows told (state old) → Knows later (state new)
+
+-- between these asks the transaction became this: with what it had, in its state or a later one; ended, if at all, as the
+-- desk told, and where the desk told it; and it knows what it knew
+pub record IsEnding (old : Txn) (told later : List Exchange) (new : Txn) : Type 0 where
+  pub still : IsStill old new
+  pub verdict : EndsAsTold old told later new
+  pub ends : EndsWhereTold (number_of old) told later new
+  pub knows : Knows told old → Knows later new
 
 -- ---- what the desk is asked
 

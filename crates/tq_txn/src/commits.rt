@@ -1,17 +1,18 @@
-ghost use Rattle.std.specs.Prelude.{◌≡◌, ◌==◌, List, Err, true, IfOk};
+//! The commit of a transaction.
+
+ghost use Rattle.std.specs.Prelude.{◌≡◌, ◌==◌, Err, true, IfOk};
 ghost use Rattle.std.specs.List.{list_all};
 ghost use Rattle.tq_coterie.specs.Coterie.{numbers_of};
 ghost use Rattle.tq_desk.specs.DeskStep as log;
-ghost use Rattle.tq_evidence.specs.declared.vote.Vote.{Vote};
+ghost use Rattle.tq_txn.specs.Aborts.{resolved_by};
 ghost use Rattle.tq_txn.specs.Commits as spec;
 ghost use Rattle.tq_txn.specs.Dialogue as line;
 ghost use Rattle.tq_txn.specs.States as states;
-ghost use Rattle.tq_txn.specs.Told.{CitesSince, EndsAsTold, EndsWhereTold, IsKnown, Knows};
+ghost use Rattle.tq_txn.specs.Told.{CitesSince, IsEnding, IsKnown, Knows};
 ghost use Rattle.tq_txn_states.specs.Ended as ending;
 ghost use Rattle.tq_txn_states.specs.Open.{HasVoters};
 ghost use Rattle.tq_txn_states.specs.Voting.{IsVotedOn, evidence_of};
 
-use crate::aborts::resolved_voting;
 use crate::endings::{end_at_each, prepare_at};
 use crate::fault::is_commit;
 use crate::{Asker, Decision, DeskTold, LineFault, Ready, Txn, Voting};
@@ -40,52 +41,8 @@ fn prepare_each<A: Asker>(
     Ok(())
 }
 
-/// What the desk's answer to a commit says, and the verdict that it tells.
-#[derive(Drop)]
-struct Ruling {
-    answer: Result<u64, LineFault>,
-    verdict: Option<Verdict>,
-}
-
-/// What the desk's answer to a commit says, which cites these votes. It takes no memory.
-fn ruling_in(reply: DeskReply, cited: SharedSeq<CitedVote>) -> Ruling
-    ensures answer { result.answer ≡ spec.commit_answer reply }
-    ensures verdict { (votes : List Vote) → cited ≡ log.cited_votes votes
-        → result.verdict ≡ ending.commit_verdict votes reply }
-{
-    match reply {
-        DeskReply::Committed { serial } => Ruling {
-            answer: Ok(serial),
-            verdict: Some(Verdict::Commit { votes: cited }),
-        },
-        DeskReply::Refused(refusal) => refusal_ruling(refusal),
-        _ => Ruling {
-            answer: Err(LineFault::WrongReply { part: Part::Desk }),
-            verdict: None,
-        },
-    }
-}
-
-fn refusal_ruling(refusal: DeskRefusal) -> Ruling
-    ensures answer { result.answer ≡ Err (line.fault_of_desk refusal) }
-    ensures verdict { (votes : List Vote)
-        → result.verdict ≡ ending.commit_verdict votes (DeskReply.Refused refusal) }
-{
-    match refusal {
-        DeskRefusal::Decided(verdict) => Ruling {
-            answer: Err(LineFault::Ended {
-                committed: is_commit(&verdict),
-            }),
-            verdict: Some(verdict),
-        },
-        _ => Ruling {
-            answer: Err(LineFault::Desk(refusal)),
-            verdict: None,
-        },
-    }
-}
-
-/// The transaction after the desk's answer to its commit. It takes no memory: what the desk told stands in its state.
+/// What the desk's answer to a commit says, and the transaction after it. It takes no memory: what the desk told stands in
+/// its state.
 fn decision_of(ready: Ready, told: DeskTold, cited: SharedSeq<CitedVote>) -> Decision
     requires asked { told.ask ≡ evidence_of ready }
     requires cited { cited ≡ log.cited_votes ready.votes }
@@ -97,9 +54,37 @@ fn decision_of(ready: Ready, told: DeskTold, cited: SharedSeq<CitedVote>) -> Dec
         ask: _,
         reply,
     } = told;
-    let Ruling { answer, verdict } = ruling_in(reply, cited);
-    let txn = resolved_voting(ready.into_voting(), verdict, number);
-    Decision { answer, txn }
+    match reply {
+        DeskReply::Committed { serial } => Decision {
+            answer: Ok(serial),
+            txn: Txn::Ended(ready.end_by(Verdict::Commit { votes: cited }, number)),
+        },
+        DeskReply::Refused(refusal) => refused(ready, refusal, number),
+        _ => Decision {
+            answer: Err(LineFault::WrongReply { part: Part::Desk }),
+            txn: Txn::Voting(ready.into_voting()),
+        },
+    }
+}
+
+/// What the desk's refusal of a commit says, and the transaction after it: a verdict that stands already ends it.
+fn refused(ready: Ready, refusal: DeskRefusal, cite: u64) -> Decision
+    ensures answer { result.answer ≡ Err (line.fault_of_desk refusal) }
+    ensures txn { result.txn ≡ resolved_by (Txn.Voting ready) ready.txn cite
+        (ending.commit_verdict ready.votes (DeskReply.Refused refusal)) }
+{
+    match refusal {
+        DeskRefusal::Decided(verdict) => Decision {
+            answer: Err(LineFault::Ended {
+                committed: is_commit(&verdict),
+            }),
+            txn: Txn::Ended(ready.end_by(verdict, cite)),
+        },
+        _ => Decision {
+            answer: Err(LineFault::Desk(refusal)),
+            txn: Txn::Voting(ready.into_voting()),
+        },
+    }
 }
 
 /// Asks the desk to commit a transaction whose votes are all there. After a fault the transaction comes back with what
@@ -108,12 +93,8 @@ pub fn decide<A: Asker>(asker: &mut A, alloc: Global, voting: Voting) -> Decisio
     ensures asks { line.Follows (spec.decide_line voting)
         (A.told asker.old) (A.told asker.new) (line.ended_by result.answer result.txn) }
     ensures levels { states.levels_of result.txn ≡ voting.txn.levels }
-    ensures kept { states.IsGathered voting result.txn }
-    ensures verdict { EndsAsTold (Txn.Voting voting)
+    ensures ending { IsEnding (Txn.Voting voting)
         (A.told asker.old) (A.told asker.new) result.txn }
-    ensures ends { EndsWhereTold voting.txn.txn (A.told asker.old) (A.told asker.new) result.txn }
-    ensures knows { Knows (A.told asker.old) (Txn.Voting voting)
-        → Knows (A.told asker.new) result.txn }
     ensures cited { Knows (A.told asker.old) (Txn.Voting voting)
         → CitesSince (A.told asker.old) (A.told asker.new) }
     ensures tree { A.levels asker.new ≡ A.levels asker.old }
@@ -167,12 +148,8 @@ pub fn commit<A: Asker>(asker: &mut A, alloc: Global, voting: Voting) -> Decisio
     ensures asks { line.Follows (spec.commit_line voting)
         (A.told asker.old) (A.told asker.new) (line.ended_by result.answer result.txn) }
     ensures levels { states.levels_of result.txn ≡ voting.txn.levels }
-    ensures kept { states.IsGathered voting result.txn }
-    ensures verdict { EndsAsTold (Txn.Voting voting)
+    ensures ending { IsEnding (Txn.Voting voting)
         (A.told asker.old) (A.told asker.new) result.txn }
-    ensures ends { EndsWhereTold voting.txn.txn (A.told asker.old) (A.told asker.new) result.txn }
-    ensures knows { Knows (A.told asker.old) (Txn.Voting voting)
-        → Knows (A.told asker.new) result.txn }
     ensures cited { Knows (A.told asker.old) (Txn.Voting voting)
         → CitesSince (A.told asker.old) (A.told asker.new) }
     ensures tree { A.levels asker.new ≡ A.levels asker.old }

@@ -1,3 +1,5 @@
+//! Reads and writes over a quorum.
+
 ghost use Rattle.std.specs.List.{list_all, Contains};
 ghost use Rattle.std.specs.Prelude.{◌≡◌, ◌==◌, ◌+◌, ◌<◌, ◌≤◌, ℕ, List, [], ◌∷◌, Ok, Err, true, length, IfOk, OnErr, OnOk, ◌++◌, false};
 ghost use Rattle.tq_coterie.specs.Coterie.{numbers_of};
@@ -162,14 +164,14 @@ fn lock_next<A: Asker>(
     ensures ask { IfOk result (λ it. it ≡ ask) }
     ensures tree { A.levels asker.new ≡ A.levels asker.old }
 {
-    open.room_to_touch(server)?;
+    open.room_to_touch()?;
     grants.reserve(1)?;
     let locked = match lock_at(asker, alloc, open.txn(), lock, server, ask) {
         Ok(locked) => locked,
         Err(fault) => return Err(fault),
     };
     let (grant, ask) = locked;
-    open.touch(alloc, server)?;
+    open.touch_near(server, grants.len())?;
     grants.push_reserved(grant);
     Ok(ask)
 }

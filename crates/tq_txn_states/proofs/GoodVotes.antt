@@ -1,5 +1,5 @@
 -- A vote put at its place, and what a list of votes keeps.
-use Rattle.std.proofs.Common.{◌≡◌, ℕ, Bool, true, false, not, ◌&&◌, ◌==◌, cond, List, [], ◌∷◌, ◌++◌, Some, None, map, set, length, slice_get, nat_lt, ◌≤◌, refl, sym, ap, ◌∙◌}
+use Rattle.std.proofs.Common.{◌≡◌, ℕ, Bool, true, false, not, ◌&&◌, ◌==◌, cond, List, [], ◌∷◌, Some, None, map, set, length, slice_get, nat_lt, ◌≤◌, refl, sym, ap, ◌∙◌}
 use Rattle.std.specs.List.{list_all, insert, find}
 use Rattle.std.specs.List.Sorted.{IsPartitionPoint}
 use Rattle.std.specs.Option.{option_map, option_map_or}
@@ -9,7 +9,7 @@ use Rattle.tq_evidence.specs.declared.vote.Vote.{Vote}
 use Rattle.tq_evidence.specs.Evidence.{rises, votes_rise, has_writes, is_server_of}
 use Rattle.tq_txn_states.specs.Sets.{put, with_first_changed}
 use Rattle.tq_txn_states.specs.Voting.{VotingView, with_vote, covers_op, writes_in, has_vote, is_of_server, lost_file, IsVoting, IsGoodVote}
-use Rattle.tq_txn_states.proofs.NumberSets.{has-map, map-put, rises-with_server, none_below, put_above}
+use Rattle.tq_txn_states.proofs.NumberSets.{has-map, map-put, rises-with_server}
 use Rattle.tq_txn_states.proofs.Puts.{list_all-put, list_all-changed}
 use Rattle.tq_txn_states.proofs.Searched.{found_at, put_at, changed_at}
 
@@ -36,11 +36,6 @@ pub inserted : (vote : Vote) (votes : List Vote) (place : ℕ) → votes_rise vo
 inserted vote votes place up within point none =
     let absent = found_vote vote.server votes place up point ∙ none in
     rw absent (put_at (λ (other : Vote). other.server) vote votes place within point absent)
-
--- a vote of a server above the others
-pub appended : (vote : Vote) (votes : List Vote) → list_all (λ other. nat_lt other.server vote.server) votes ≡ true → votes ++ vote ∷ [] ≡ with_vote vote votes
-appended vote votes all =
-    rw (none_below (λ (v : Vote). v.server) vote.server votes all) (put_above (λ (v : Vote). v.server) vote votes all)
 
 same_servers : (vote : Vote) (votes : List Vote) → map (λ v. v.server) (with_first_changed (is_of_server vote.server) (λ other. vote) votes) ≡ map (λ v. v.server) votes
 same_servers vote [] = refl

@@ -1,5 +1,5 @@
 -- Sets of servers by their numbers.
-use Rattle.std.proofs.Common.{◌≡◌, ℕ, ◌-◌, ◌<◌, Bool, true, false, ◌&&◌, ◌||◌, ◌==◌, cond, List, [], ◌∷◌, ◌++◌, Some, length, take, drop, slice_get, nat_lt, map, refl, sym, ap, ◌∙◌, subst, arith}
+use Rattle.std.proofs.Common.{◌≡◌, ℕ, ◌-◌, ◌<◌, Bool, true, false, ◌&&◌, ◌||◌, ◌==◌, cond, List, [], ◌∷◌, Some, length, take, drop, slice_get, nat_lt, map, refl, sym, ap, ◌∙◌, subst, arith}
 use Rattle.std.specs.List.{list_all, list_any}
 use Rattle.std.proofs.Math.Bool.{or_assoc, or_comm}
 use Rattle.std.proofs.lemmas.Bool.{and_parts, and_from, eqb-true, lt-ltb, or_parts, or_right, false≢true}
@@ -150,13 +150,6 @@ module _ {X : Type 0} (number : X → ℕ) where
   none_below n (first ∷ rest) all =
       let parts = and_parts (nat_lt (number first) n) (list_all (λ x. nat_lt (number x) n) rest) all in
       rw (other_below (number first) n parts.0) (none_below n rest parts.1)
-
-  -- a value above all the others goes to the end
-  pub put_above : (x : X) (xs : List X) → list_all (λ y. nat_lt (number y) (number x)) xs ≡ true → xs ++ x ∷ [] ≡ put (λ y. nat_lt (number x) (number y)) x xs
-  put_above x [] all = refl
-  put_above x (first ∷ rest) all =
-      let parts = and_parts (nat_lt (number first) (number x)) (list_all (λ y. nat_lt (number y) (number x)) rest) all in
-      rw (not_above (number first) (number x) parts.0) (ap (λ ys. first ∷ ys) (put_above x rest parts.1))
 
 from_ascends : (low : ℕ) (ns : List ℕ) → Ascends low ns → rises_from low ns ≡ true
 from_ascends low [] up = refl

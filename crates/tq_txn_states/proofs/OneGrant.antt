@@ -4,7 +4,7 @@ use Rattle.std.specs.List.{list_all, list_any}
 use Rattle.std.specs.List.Sorted.{IsPartitionPoint}
 use Rattle.std.specs.Option.{option_map_or}
 use Rattle.std.proofs.Math.Bool.{and-true}
-use Rattle.std.proofs.lemmas.Bool.{and_parts, and_from, eq-eqb, eqb-true, false≢true, le-ltb, or_left, or_parts, or_right}
+use Rattle.std.proofs.lemmas.Bool.{and_parts, and_from, eq-eqb, eqb-true, le-ltb, or_parts}
 use Rattle.std.proofs.lemmas.Option.{none-some}
 use Rattle.std.proofs.lemmas.Bool.Decides.{nat_tests}
 use Rattle.tq_evidence.specs.declared.grant.Grant.{Grant}
@@ -72,12 +72,6 @@ quorums-order levels (op ∷ ops) are =
 -- a search by halves leads to it, if it is there
 pub granter_at : (server : ℕ) (grants : List Grant) (place : ℕ) → rises (granters grants) ≡ true → IsPartitionPoint (λ grant. nat_lt grant.server server ≡ true) (λ grant. nat_lt grant.server server ≡ false) grants place → is_granter_at grants server place ≡ list_any (λ grant. grant.server == server) grants
 granter_at server grants place up point = sym (found_at (λ (grant : Grant). grant.server) server grants place up point)
-
--- where it stands it is there
-pub granter_there : (server : ℕ) (grants : List Grant) (place : ℕ) → is_granter_at grants server place ≡ true → list_any (λ grant. grant.server == server) grants ≡ true
-granter_there server [] place is = absurd (false≢true is)
-granter_there server (first ∷ rest) zero is = or_left (first.server == server) (list_any (λ (grant : Grant). grant.server == server) rest) is
-granter_there server (first ∷ rest) (suc place) is = or_right (first.server == server) (list_any (λ (grant : Grant). grant.server == server) rest) (granter_there server rest place is)
 
 turned : (a b : ℕ) → (a == b) ≡ false → (b == a) ≡ false
 turned a b other = grind (arith, nat_tests)

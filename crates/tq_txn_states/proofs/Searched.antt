@@ -4,7 +4,7 @@ use Rattle.std.specs.List.{list_any, insert}
 use Rattle.std.specs.List.Sorted.{IsPartitionPoint, IsPartitionedBy}
 use Rattle.std.specs.Option.{option_map_or}
 use Rattle.std.proofs.Math.Bool.{or-false}
-use Rattle.std.proofs.lemmas.Bool.{and_parts, or_parts, false≢true}
+use Rattle.std.proofs.lemmas.Bool.{and_parts, or_left, or_parts, or_right, false≢true}
 use Rattle.std.proofs.lemmas.Bool.Decides.{nat_tests}
 use Rattle.tq_evidence.specs.Evidence.{rises}
 use Rattle.tq_txn_states.specs.Sets.{put, with_first_changed}
@@ -38,6 +38,12 @@ module _ {X : Type 0} (number : X → ℕ) where
   parted n (first ∷ rest) up (suc i) zero d le within is = absurd (omega (arith, le))
   parted n (first ∷ rest) up (suc i) (suc j) d le within is =
       parted n rest (rises_rest (number first) (map number rest) up) i j d (omega (arith, le)) (omega (arith, within)) is
+
+  -- where it stands it is there
+  pub stands_there : (n : ℕ) (xs : List X) (place : ℕ) → option_map_or (λ x. number x == n) (slice_get xs place) false ≡ true → list_any (λ x. number x == n) xs ≡ true
+  stands_there n [] place is = absurd (false≢true is)
+  stands_there n (first ∷ rest) zero is = or_left (number first == n) (list_any (λ x. number x == n) rest) is
+  stands_there n (first ∷ rest) (suc place) is = or_right (number first == n) (list_any (λ x. number x == n) rest) (stands_there n rest place is)
 
   none_beyond : (low n : ℕ) (xs : List X) → nat_lt low n ≡ false → rises_from low (map number xs) ≡ true → list_any (λ x. number x == n) xs ≡ false
   none_beyond low n [] from up = refl

@@ -1,3 +1,5 @@
+//! A transaction that reads and writes.
+
 ghost use Rattle.std.specs.Prelude.{◌≡◌, ◌+◌, ◌<◌, ◌≤◌, ◌++◌, ℕ, List, [], ◌∷◌, None, Some, true, length, position, IfOk, IfErr, IfSome, IsSome, OnOk, OnErr, OnSome, MatchOption, false, vec_len, vec_capacity};
 ghost use Rattle.std.specs.List.{find};
 ghost use Rattle.std.specs.Option.{option_copied};
@@ -154,13 +156,6 @@ impl Open {
         self.voters.as_slice()
     }
 
-    /// Whether a server is of the quorum of one of its operations.
-    pub(crate) fn is_voter(&self, server: u64) -> bool
-        ensures { result ≡ evidence.is_server_of self.now.ops server }
-    {
-        self.voters.contains(server)
-    }
-
     /// The servers that granted it a lock, as far as it was handed them, ascending.
     pub fn servers(&self) -> &[ServerId]
         ensures numbers { numbers_of result.now ≡ self.now.touched }
@@ -170,12 +165,9 @@ impl Open {
     }
 
     /// Makes room to note that a server granted it a lock. Nothing else changes.
-    pub fn room_to_touch(&mut self, server: ServerId) -> Result<(), Memory>
+    pub fn room_to_touch(&mut self) -> Result<(), Memory>
         ensures { self.new ≡ self.old }
     {
-        if self.touched.contains(server.number()) {
-            return Ok(());
-        }
         self.touched.reserve(1)?;
         Ok(())
     }
@@ -188,11 +180,18 @@ impl Open {
         ensures levels { self.new.levels ≡ self.old.levels }
         ensures err { OnErr result (self.new ≡ self.old) }
     {
-        if self.touched.contains(server.number()) {
-            return Ok(());
-        }
+        self.touch_near(server, 0)?;
+        Ok(())
+    }
+
+    /// The same of a server that likely stands at this place among those noted, or goes there.
+    pub fn touch_near(&mut self, server: ServerId, likely: usize) -> Result<(), Memory>
+        requires { server.levels ≡ self.old.levels }
+        ensures ok { OnOk result (self.new ≡ spec.touched_by self.old server.number) }
+        ensures err { OnErr result (self.new ≡ self.old) }
+    {
         self.touched.reserve(1)?;
-        self.touched.put(server);
+        self.touched.put(server, likely);
         Ok(())
     }
 

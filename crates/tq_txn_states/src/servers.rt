@@ -1,5 +1,9 @@
-ghost use Rattle.std.specs.Prelude.{◌≡◌, ◌==◌, ◌+◌, ◌<◌, ◌≤◌, [], true, false, length, nat_lt, vec_capacity, vec_len, IfOk, IsTrue, OnOk};
-ghost use Rattle.std.specs.List.{insert, list_all, list_any};
+//! The servers that a transaction has noted.
+
+ghost use Rattle.std.specs.Prelude.{◌≡◌, ◌==◌, ◌+◌, ◌<◌, ◌≤◌, [], true, false, length, nat_lt, slice_get, vec_capacity, vec_len, IfOk, IsTrue, OnOk};
+ghost use Rattle.std.specs.List.{insert, list_all};
+ghost use Rattle.std.specs.List.Sorted.{IsPartitionPoint};
+ghost use Rattle.std.specs.Option.{option_map_or};
 ghost use Rattle.tq_coterie.specs.Coterie.{has, is_quorum, numbers_of};
 ghost use Rattle.tq_evidence.specs.Evidence.{granters, rises};
 ghost use Rattle.tq_txn_states.specs.Sets.{IsReady, IsServerSet, with_id, with_number, with_numbers};
@@ -50,17 +54,6 @@ impl Servers {
         self.ids.as_slice()
     }
 
-    /// Whether a server of that number is there.
-    pub(crate) fn contains(&self, number: u64) -> bool
-        ensures { result ≡ has self.now.servers number }
-    {
-        let ids = self.ids.as_slice();
-        if is_above(ids, number) {
-            return false;
-        }
-        has_number(ids, number)
-    }
-
     /// Makes room for as many servers more.
     pub(crate) fn reserve(&mut self, more: usize) -> Result<(), Memory>
         ensures room { OnOk result (more ≤ self.new.room) }
@@ -84,22 +77,19 @@ impl Servers {
         Ok(true)
     }
 
-    /// Puts a server at its place, if it is not there. It takes no memory.
-    pub(crate) fn put(&mut self, server: ServerId)
+    /// Puts a server at its place, if it is not there: likely this place. It takes no memory.
+    pub(crate) fn put(&mut self, server: ServerId, likely: usize)
         requires tree { server.levels ≡ self.old.levels }
         requires room { 1 ≤ self.old.room }
         ensures servers { self.new.servers ≡ with_number self.old.servers server.number }
         ensures levels { self.new.levels ≡ self.old.levels }
         ensures room { self.old.room ≤ self.new.room + 1 }
     {
-        if is_above(self.ids.as_slice(), server.number()) {
-            self.ids.push_reserved(server);
+        let place = place_of(self.ids.as_slice(), server.number(), likely);
+        if stands_at(self.ids.as_slice(), server.number(), place) {
             return;
         }
-        if has_number(self.ids.as_slice(), server.number()) {
-            return;
-        }
-        put_in_order(&mut self.ids, server);
+        put_at(&mut self.ids, place, server);
     }
 
     /// Grows by the servers of the grants, which are a quorum of its tree, if it is to. It takes no memory.
@@ -115,9 +105,30 @@ impl Servers {
         // A tree has a level, so the numbers of a quorum are its servers.
         let _ = self.levels.count();
         for grant in grants {
-            self.put(ServerId::new(self.levels, grant.server));
+            self.put(ServerId::new(self.levels, grant.server), 0);
         }
     }
+}
+
+/// Where the servers of lesser numbers end: the number stands there, or goes there. Likely at this place, and else a search
+/// by halves finds it.
+#[inline(always)]
+fn place_of(ids: &[ServerId], number: u64, likely: usize) -> usize
+    requires { rises (numbers_of ids.now) ≡ true }
+    ensures there { option_map_or (λ id. id.number == number) (slice_get ids.now result) false
+        ≡ has (numbers_of ids.now) number }
+    ensures place { has (numbers_of ids.now) number ≡ false
+        → IsPartitionPoint (λ id. nat_lt id.number number ≡ true)
+        (λ id. nat_lt id.number number ≡ false) ids.now result }
+    ensures within { result ≤ length ids.now }
+{
+    if stands_at(ids, number, likely) {
+        return likely;
+    }
+    if is_above(ids, number) {
+        return ids.len();
+    }
+    ids.partition_point(|id| id.number() < number)
 }
 
 /// Whether the number is above those of all the servers, which ascend.
@@ -131,16 +142,31 @@ fn is_above(ids: &[ServerId], number: u64) -> bool
     }
 }
 
-/// Whether the number is that of one of the servers, which ascend.
-fn has_number(ids: &[ServerId], number: u64) -> bool
-    requires { rises (numbers_of ids.now) ≡ true }
-    ensures { result ≡ list_any (λ id. id.number == number) ids.now }
+/// Whether the number is that of the server at the place.
+fn stands_at(ids: &[ServerId], number: u64, place: usize) -> bool
+    ensures value { result ≡ option_map_or (λ id. id.number == number) (slice_get ids.now place) false }
+    ensures within { IsTrue result → place < length ids.now }
 {
-    let place = ids.partition_point(|id| id.number() < number);
     match ids.get(place) {
         Some(id) => id.number() == number,
         None => false,
     }
+}
+
+/// Puts an item at a place of a list that has room.
+#[inline(always)]
+pub(crate) fn put_at<T: Drop>(items: &mut Vec<T>, place: usize, item: T)
+    requires within { place ≤ length items.old.items }
+    requires room { vec_len items.old < vec_capacity items.old }
+    ensures items { items.new.items ≡ insert items.old.items place item }
+    ensures len { vec_len items.new ≡ vec_len items.old + 1 }
+    ensures capacity { vec_capacity items.new ≡ vec_capacity items.old }
+{
+    if place == items.len() {
+        items.push_reserved(item);
+        return;
+    }
+    let _room_was_made = items.insert(place, item);
 }
 
 /// Whether the servers of all grants are there, as one walk along both finds them where both ascend.
@@ -159,27 +185,4 @@ fn has_all(ids: &[ServerId], grants: &[Grant]) -> bool
             }
         },
     }
-}
-
-/// Puts a server that is not there before the first above it, in a list that has room.
-fn put_in_order(ids: &mut Vec<ServerId>, server: ServerId)
-    requires rise { rises (numbers_of ids.old.items) ≡ true }
-    requires absent { list_any (λ id. id.number == server.number) ids.old.items ≡ false }
-    requires room { vec_len ids.old < vec_capacity ids.old }
-    ensures items { ids.new.items ≡ with_id server ids.old.items }
-    ensures len { vec_len ids.new ≡ vec_len ids.old + 1 }
-    ensures capacity { vec_capacity ids.new ≡ vec_capacity ids.old }
-{
-    let place = place_of(ids.as_slice(), server);
-    let _room_was_made = ids.insert(place, server);
-}
-
-/// Where a server that is not there goes: before the first above it, or to the end.
-fn place_of(ids: &[ServerId], server: ServerId) -> usize
-    requires rise { rises (numbers_of ids.now) ≡ true }
-    requires absent { list_any (λ id. id.number == server.number) ids.now ≡ false }
-    ensures place { insert ids.now result server ≡ with_id server ids.now }
-    ensures within { result ≤ length ids.now }
-{
-    ids.partition_point(|id| id.number() < server.number())
 }

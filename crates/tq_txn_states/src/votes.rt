@@ -1,3 +1,5 @@
+//! Votes, from the answers that tell of them.
+
 ghost use Rattle.std.specs.Prelude.{◌≡◌, ◌==◌, ◌<◌, ◌≤◌, is_some, length, nat_lt, position, slice_get, true, false, vec_capacity, vec_len, IfOk, IfSome, IsTrue};
 ghost use Rattle.std.specs.List.{list_all, list_any};
 ghost use Rattle.std.specs.List.Sorted.{IsPartitionPoint};
@@ -8,6 +10,7 @@ ghost use Rattle.tq_txn_states.specs.Voting as spec;
 ghost use Rattle.tq_txn_states.specs.Voting.{is_of_server};
 
 use crate::NodeTold;
+use crate::servers::put_at;
 use std::alloc::Global;
 use tq_asks::{NodeAsk, NodeReply, WorkAsk};
 use tq_desk::{Grant, Op, Vote};
@@ -62,19 +65,19 @@ fn is_prepare_of(txn: u64, ask: &NodeAsk) -> bool
     *voter == txn
 }
 
-/// Where the server's grant stands in the first operation that has one.
-pub(crate) fn place_of_server(ops: &[Op], server: u64) -> Option<usize>
+/// Where the server's grant stands in the first operation that has one: likely at the place.
+pub(crate) fn place_of_server(ops: &[Op], server: u64, likely: usize) -> Option<usize>
     requires { open_spec.have_order ops.now ≡ true }
     ensures { is_some result ≡ evidence.is_server_of ops.now server }
 {
     match ops {
         [] => None,
         [op, ..] => {
-            let place = place_of_grant(op.grants.as_slice(), server, 0);
+            let place = place_of_grant(op.grants.as_slice(), server, likely);
             if is_granter_at(op.grants.as_slice(), server, place) {
                 return Some(place);
             }
-            place_of_server(&ops[1..], server)
+            place_of_server(&ops[1..], server, likely)
         }
     }
 }
@@ -260,16 +263,12 @@ fn is_above(votes: &[Vote], server: u64) -> bool
     }
 }
 
-/// Whether the server's vote is there. The votes ascend: of a server above them the last tells, and another a search finds.
+/// Whether the server's vote is there.
 pub(crate) fn has_vote(votes: &[Vote], server: u64) -> bool
     requires { evidence.votes_rise votes.now ≡ true }
     ensures { result ≡ spec.has_vote votes.now server }
 {
-    if is_above(votes, server) {
-        return false;
-    }
-    let place = place_of_vote(votes, server);
-    stands_at(votes, server, place)
+    stands_at(votes, server, place_of_vote(votes, server))
 }
 
 /// Whether the vote of each server is there.
@@ -288,32 +287,31 @@ pub(crate) fn has_votes(votes: &[Vote], voters: &[ServerId]) -> bool
     }
 }
 
-/// Puts a vote at its place, instead of one of its server that is there, in a list that has room. One of a server above the
-/// others goes to the end.
+/// Puts a vote at its place, instead of one of its server that is there, in a list that has room.
 pub(crate) fn put_vote(votes: &mut Vec<Vote>, vote: Vote)
     requires rise { evidence.votes_rise votes.old.items ≡ true }
     requires room { vec_len votes.old < vec_capacity votes.old }
     ensures { votes.new.items ≡ spec.with_vote vote votes.old.items }
 {
-    if is_above(votes.as_slice(), vote.server) {
-        votes.push_reserved(vote);
-        return;
-    }
     let place = place_of_vote(votes.as_slice(), vote.server);
     if stands_at(votes.as_slice(), vote.server, place) {
         votes[place] = vote;
         return;
     }
-    let _room_was_made = votes.insert(place, vote);
+    put_at(votes, place, vote);
 }
 
-/// Where the votes of lesser servers end: the server's vote stands there, or goes there if it is not there.
+/// Where the votes of lesser servers end: the server's vote stands there, or goes there if it is not there. The last tells
+/// of a server above all, and of another a search by halves.
 fn place_of_vote(votes: &[Vote], server: u64) -> usize
     requires { evidence.votes_rise votes.now ≡ true }
     ensures place { IsPartitionPoint (λ vote. nat_lt vote.server server ≡ true)
         (λ vote. nat_lt vote.server server ≡ false) votes.now result }
     ensures within { result ≤ length votes.now }
 {
+    if is_above(votes, server) {
+        return votes.len();
+    }
     votes.partition_point(|vote| vote.server < server)
 }
 

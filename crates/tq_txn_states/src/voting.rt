@@ -1,4 +1,6 @@
-ghost use Rattle.std.specs.Prelude.{◌≡◌, ◌≤◌, true, None, Some, IfOk, IfErr, IfSome, OnOk, OnErr, OnSome};
+//! A transaction that gathers votes.
+
+ghost use Rattle.std.specs.Prelude.{◌≡◌, ◌≤◌, is_some, true, None, Some, IfOk, IfErr, IfSome, OnOk, OnErr, OnSome};
 ghost use Rattle.tq_coterie.specs.Coterie.{numbers_of};
 ghost use Rattle.tq_evidence.specs.Evidence as evidence;
 ghost use Rattle.tq_txn_states.specs.Cited.{TakesVote};
@@ -103,28 +105,32 @@ impl Voting {
         ensures fault { IfErr result (ComesOf (spec.ask_fault self.now.txn server.number)) }
         ensures memory { IfErr result (spec.IsOfVoter self.now.txn server.number) }
     {
-        if !self.txn.is_voter(server.number()) {
+        let Some(place) = self.place_of(server.number()) else {
             return Err(TxnFault::NotAVoter);
-        }
-        if let Some(ask) = self.asked_before(server.number())? {
+        };
+        if let Some(ask) = self.asked_before(server.number(), place)? {
             return Ok(ask);
         }
         let work = self.work_at(alloc, server.number())?;
         Ok(NodeAsk::Work(Shared::new(alloc, work)?))
     }
 
-    /// The ask for the server's vote, where it is the one that is kept.
-    fn asked_before(&self, server: u64) -> Result<Option<NodeAsk>, Memory>
+    /// Where a voter's grant stands in the first operation that has one. Voters are asked in their order: likely behind
+    /// those that have voted.
+    fn place_of(&self, server: u64) -> Option<usize>
+        ensures { is_some result ≡ evidence.is_server_of self.now.txn.ops server }
+    {
+        place_of_server(self.txn.ops(), server, self.votes.len())
+    }
+
+    /// The ask for the server's vote, where it is the one that is kept. Its grants likely stand at the place.
+    fn asked_before(&self, server: u64, place: usize) -> Result<Option<NodeAsk>, Memory>
         ensures { IfOk result (λ it. IfSome it (λ ask. ask ≡ prepare_ask self.now.txn server)) }
     {
         let Some(ask) = &self.asked else {
             return Ok(None);
         };
-        let ops = self.txn.ops();
-        let Some(place) = place_of_server(ops, server) else {
-            return Ok(None);
-        };
-        if !writes_all_at(ops, server, place) {
+        if !writes_all_at(self.txn.ops(), server, place) {
             return Ok(None);
         }
         Ok(Some(ask.clone()?))
@@ -137,7 +143,7 @@ impl Voting {
         ensures fault { IfErr result (ComesOf (spec.ask_fault self.now.txn server.number)) }
         ensures memory { IfErr result (spec.IsOfVoter self.now.txn server.number) }
     {
-        if !self.txn.is_voter(server.number()) {
+        if self.place_of(server.number()).is_none() {
             return Err(TxnFault::NotAVoter);
         }
         Ok(self.work_at(alloc, server.number())?)
@@ -197,7 +203,7 @@ impl Voting {
         ensures fault { IfErr result (λ fault. spec.vote_fault self.now told ≡ Some fault) }
     {
         let ops = self.txn.ops();
-        let Some(place) = place_of_server(ops, told.server) else {
+        let Some(place) = self.place_of(told.server) else {
             return Err(TxnFault::NotAVoter);
         };
         let Some(cast) = cast_in(self.txn.txn(), told) else {

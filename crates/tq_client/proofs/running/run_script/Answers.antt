@@ -1,12 +1,12 @@
 use Rattle.std.proofs.Common.{◌≡◌, ℕ, List, Option, None, Some, sym, subst, ◌∙◌}
 use Rattle.std.proofs.lemmas.Result.{err_from_is_err_and}
 use Rattle.std.specs.Option.{IfSome}
-use Rattle.std.specs.Result.{result_ok}
 use Rattle.tq_txn_states.specs.Open.{OpenView}
-use Rattle.tq_txn.specs.Dialogue.{Follows}
+use Rattle.tq_txn.specs.Dialogue.{Ends, Follows}
+use Rattle.tq_txn.proofs.LineLaws.{follows_end, follows_then}
 use Rattle.tq_syntax.specs.declared.script.Line.{Line}
-use Rattle.tq_client.specs.Script.{script_asked}
-use Rattle.tq_client.proofs.Following.{next_line, last_line, no_line}
+use Rattle.tq_client.specs.Script.{closing, script_asked}
+use Rattle.tq_client.proofs.Following.{follows_cut, next_line, last_line, no_line}
 use Rattle.tq_client.proofs.running.run_script.Goals as goal
 
 of_tree : (txn : Option OpenView) (a b : ℕ) → a ≡ b → IfSome txn (λ o. o.levels ≡ a) → IfSome txn (λ o. o.levels ≡ b)
@@ -35,10 +35,21 @@ returns-in_err-open_txn-clause-asks g c =
     (c.loop-line.invariant.asks new None
     (last_line c.args.levels c.args.limits c.lines-lines.result.now c.loop-line.line-index c.line-item.result c.loop-line.open_txn (g.A.Asker.told c.loop-line.asker) new c.loop-line-test.true c.line-item.is c.in_err-open_txn.ensures.asks)))
 
+pub returns-in_err-_none-clause-asks : goal.returns-in_err-_none-clause-asks
+returns-in_err-_none-clause-asks g c =
+    let p = err_from_is_err_and c.from_residual-in_err-_none.result c.from_residual-in_err-_none.ensures.1 in
+    let old = g.A.Asker.told c.loop-line.asker in
+    let new = g.A.Asker.told c.close.new.asker in
+    let P : List Line → Type 0 = λ ls. Follows (script_asked c.args.levels c.args.limits ls None) (g.A.Asker.told c.args.asker.now) new None in
+    let cut = follows_cut (closing c.loop-line.open_txn) (λ none. Ends tt) old new c.in_err-_none.ensures.asks in
+    rw p.1 (subst P c.lines-lines.ensures
+    (c.loop-line.invariant.asks new None (no_line c.args.levels c.args.limits c.lines-lines.result.now c.loop-line.line-index c.loop-line.open_txn old new None c.loop-line-test.false cut)))
+
 pub returns-clause-asks : goal.returns-clause-asks
 returns-clause-asks g c =
+    let old = g.A.Asker.told c.loop-line.asker in
     let new = g.A.Asker.told c.close.new.asker in
-    let P : List Line → Type 0 = λ ls. Follows (script_asked c.args.levels c.args.limits ls None) (g.A.Asker.told c.args.asker.now) new (result_ok c.close.result) in
+    let P : List Line → Type 0 = λ ls. Follows (script_asked c.args.levels c.args.limits ls None) (g.A.Asker.told c.args.asker.now) new (Some tt) in
+    let closed = follows_then (closing c.loop-line.open_txn) (λ none. Ends tt) c.in_ok-_none._none old new new (Some tt) c.in_ok-_none.ensures.asks (follows_end tt new) in
     subst P c.lines-lines.ensures
-    (c.loop-line.invariant.asks new (result_ok c.close.result)
-    (no_line c.args.levels c.args.limits c.lines-lines.result.now c.loop-line.line-index c.loop-line.open_txn (g.A.Asker.told c.loop-line.asker) new (result_ok c.close.result) c.loop-line-test.false c.close.ensures.asks))
+    (c.loop-line.invariant.asks new (Some tt) (no_line c.args.levels c.args.limits c.lines-lines.result.now c.loop-line.line-index c.loop-line.open_txn old new (Some tt) c.loop-line-test.false closed))

@@ -17,8 +17,8 @@ lock_at-requires-clause-ask g c =
     let same = c.txn.ensures ∙ ap (λ (v : OpenView). v.txn) c.room_to_touch.ensures in
     c.requires.ask ∙ ap (λ txn. lock_ask txn c.args.lock.now.file c.args.lock.now.mode) (sym same)
 
-pub touch-requires : goal.touch-requires
-touch-requires g c = c.requires.of_tree ∙ sym c.requires.same ∙ ap (λ (v : OpenView). v.levels) (sym c.room_to_touch.ensures)
+pub touch_near-requires : goal.touch_near-requires
+touch_near-requires g c = c.requires.of_tree ∙ sym c.requires.same ∙ ap (λ (v : OpenView). v.levels) (sym c.room_to_touch.ensures)
 
 pub returns-clause-ask : goal.returns-clause-ask
 returns-clause-ask g c =
@@ -56,8 +56,8 @@ returns-in-Err-clause-locks g c =
     let P : ℕ → Type 0 = λ txn. Follows (lock_line txn lock.file lock.mode number) told mid (ended_by {A = NodeTold} (Err c.in-Err.fault) tt) in
     unlocked_next lock number told mid c.args.open.now c.room_to_touch.new.self c.args.grants.now.items c.reserve.new.self.items c.in-Err.fault c.room_to_touch.ensures c.reserve.ensures.items (subst P same c.in-Err.ensures.asks)
 
-pub returns-in_err-touch-clause-locks : goal.returns-in_err-touch-clause-locks
-returns-in_err-touch-clause-locks g c =
+pub returns-in_err-touch_near-clause-locks : goal.returns-in_err-touch_near-clause-locks
+returns-in_err-touch_near-clause-locks g c =
     let lock = c.args.lock.now in
     let number = c.args.server.number in
     let open_txn = c.args.open.now in
@@ -67,10 +67,10 @@ returns-in_err-touch-clause-locks g c =
     let before = c.args.grants.now.items in
     let after = c.reserve.new.self.items in
     let same = c.txn.ensures ∙ ap (λ (v : OpenView). v.txn) c.room_to_touch.ensures in
-    let fault : Err Memory ≡ c.from_residual-in_err-touch.result = Prim.search (c.from_residual-in_err-touch.ensures, rules) in
-    let P : Result NodeAsk LineFault → Type 0 = λ r. IsLocking lock (next_lock lock.file lock.mode number) (number ∷ []) told mid open_txn c.touch.new.self before after (without_ask r) in
+    let fault : Err Memory ≡ c.from_residual-in_err-touch_near.result = Prim.search (c.from_residual-in_err-touch_near.ensures, rules) in
+    let P : Result NodeAsk LineFault → Type 0 = λ r. IsLocking lock (next_lock lock.file lock.mode number) (number ∷ []) told mid open_txn c.touch_near.new.self before after (without_ask r) in
     let Q : ℕ → Type 0 = λ txn. Follows (lock_line txn lock.file lock.mode number) told mid (Some (record { answer = Ok (grant_told txn lock.file grant); after = tt })) in
-    subst P fault (unnoted_next lock number told mid open_txn c.touch.new.self before after (grant_told open_txn.txn lock.file grant) (c.in_err-touch.ensures.err ∙ c.room_to_touch.ensures) c.reserve.ensures.items (subst Q same c.in-Ok.ensures.asks))
+    subst P fault (unnoted_next lock number told mid open_txn c.touch_near.new.self before after (grant_told open_txn.txn lock.file grant) (c.in_err-touch_near.ensures.err ∙ c.room_to_touch.ensures) c.reserve.ensures.items (subst Q same c.in-Ok.ensures.asks))
 
 pub returns-clause-locks : goal.returns-clause-locks
 returns-clause-locks g c =
@@ -83,6 +83,6 @@ returns-clause-locks g c =
     let same = c.txn.ensures ∙ ap (λ (v : OpenView). v.txn) c.room_to_touch.ensures in
     let Q : ℕ → Type 0 = λ txn. Follows (lock_line txn lock.file lock.mode number) told mid (Some (record { answer = Ok (grant_told txn lock.file grant); after = tt })) in
     let R : ℕ → Type 0 = λ txn. Contains (answers_in mid) (grant_told txn lock.file grant) in
-    let noted = c.in_ok-touch.ensures.ok ∙ ap (λ (v : OpenView). touched_by v number) c.room_to_touch.ensures in
+    let noted = c.in_ok-touch_near.ensures.ok ∙ ap (λ (v : OpenView). touched_by v number) c.room_to_touch.ensures in
     let more = c.push_reserved.ensures.items ∙ ap (λ gs. gs ++ grant ∷ []) c.reserve.ensures.items in
-    locked_next lock number told mid open_txn c.touch.new.self c.args.grants.now.items c.push_reserved.new.self.items grant noted more c.in-Ok.ensures.grant (subst Q same c.in-Ok.ensures.asks) (subst R same c.in-Ok.ensures.heard)
+    locked_next lock number told mid open_txn c.touch_near.new.self c.args.grants.now.items c.push_reserved.new.self.items grant noted more c.in-Ok.ensures.grant (subst Q same c.in-Ok.ensures.asks) (subst R same c.in-Ok.ensures.heard)

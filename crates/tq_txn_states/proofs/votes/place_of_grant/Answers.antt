@@ -1,14 +1,14 @@
 use Rattle.std.proofs.Common.{◌∙◌, nat_lt, sym, rules}
 use Rattle.std.proofs.lemmas.List.Sorted.{IsPartitionPoint-from_clause}
 use Rattle.tq_evidence.specs.declared.grant.Grant.{Grant}
-use Rattle.tq_txn_states.proofs.OneGrant.{granter_at, granter_there}
-use Rattle.tq_txn_states.proofs.Searched.{parted}
+use Rattle.tq_txn_states.proofs.OneGrant.{granter_at}
+use Rattle.tq_txn_states.proofs.Searched.{parted, stands_there}
 use Rattle.tq_txn_states.proofs.votes.place_of_grant.Goals as goal
 
 pub returns-then-is_granter_at : goal.returns-then-is_granter_at
 returns-then-is_granter_at c =
     let is = sym c.is_granter_at.ensures.value ∙ c.if-is_granter_at.true in
-    is ∙ sym (granter_there c.args.server c.args.grants.now c.args.likely is)
+    is ∙ sym (stands_there (λ (grant : Grant). grant.server) c.args.server c.args.grants.now c.args.likely is)
 
 pub returns : goal.returns
 returns c =
