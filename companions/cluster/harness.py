@@ -10,7 +10,6 @@ import client
 import places
 
 HERE = os.path.dirname(os.path.realpath(__file__))
-ROOT = os.path.dirname(os.path.dirname(HERE))
 
 
 class Cluster:

@@ -3,6 +3,7 @@ import json
 import os
 
 FILE = "cluster.json"
+ROOT = os.path.dirname(os.path.dirname(os.path.dirname(os.path.realpath(__file__))))
 
 
 class Absent(Exception):
@@ -16,6 +17,12 @@ def read(folder):
             return json.load(it)
     except OSError as fault:
         raise Absent(f"{folder}/{FILE}: {fault.strerror}") from None
+
+
+def host():
+    """The program that hosts a part: the built one, else bin/tqd, which builds it first."""
+    built = f"{ROOT}/crates/tqd/out/tqd"
+    return built if os.access(built, os.X_OK) else f"{ROOT}/bin/tqd"
 
 
 def parts(levels):
