@@ -1,7 +1,7 @@
 #!/usr/bin/env python3
-"""host.py server S|desk|view --levels N --log FILE [--limits FILES OPS ENTRIES]: a part behind lines, with its journal in a file: `tqd` over sessions/plain.py.
+"""host.py server S|desk|view --levels N --log FILE [--limits FILES OPS ENTRIES]: a part behind lines, with its journal in a file, over sessions/plain.py.
 
-A test double with the words of `tqd`, and nothing of it is proved: the tests of this folder run with either, and compare what both answer.
+Nothing of it is proved. Another host has the same words; the tests of this folder compare what both answer.
 
 At the start the log is replayed: `wrong entry N` (status 3) where the part would not have given it, `unreadable entry N` (4) where it is none; a last line
 without a line feed is cut off. Then each line read is one ask, in the form of journals, and is answered by one line: {"number":N,"reply":{..}}, or

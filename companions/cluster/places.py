@@ -20,9 +20,8 @@ def read(folder):
 
 
 def host():
-    """The program that hosts a part: the built one, else bin/tqd, which builds it first."""
-    built = f"{ROOT}/crates/tqd/out/tqd"
-    return built if os.access(built, os.X_OK) else f"{ROOT}/bin/tqd"
+    """The program that hosts a part, where no other is given."""
+    return f"{ROOT}/companions/cluster/host.py"
 
 
 def parts(levels):
