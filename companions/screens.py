@@ -9,6 +9,7 @@ import sys
 import terminal
 from journals import ROOT
 
+BUILT = f"{ROOT}/crates/tqd/out/tqd"
 WINDOW = {"COLUMNS": "80", "LINES": "24"}
 TITLE = " tq  levels"
 
@@ -71,6 +72,22 @@ def transcripts(tq):
         left = b"".join(line for line in printed.splitlines(True) if not line.startswith(b"> "))
         if left != subprocess.run([tq, "shell", "--levels", "2"], input=lines, stdout=subprocess.PIPE, check=False).stdout:
             yield f"bin/live prints otherwise than tq: {path}"
+
+
+def journals():
+    """Over the journals of a file a transcript is what tqd prints, and a frame has their open vote; where no run explains them tqd's line and status are its end."""
+    tqd, kept = BUILT if os.access(BUILT, os.X_OK) else f"{ROOT}/bin/tqd", "examples/journals/{}.json"
+    lines = b"down 1\nbegin\nread 3 plan\ncommit 2\nboard\nrefresh\n"
+    printed = live(tqd, "--journals", kept.format("system"), "--transcript", input=lines)
+    left = b"".join(line for line in printed.splitlines(True) if not line.startswith(b"> "))
+    if left != subprocess.run([tqd, "rehearse", kept.format("system")], cwd=ROOT, input=lines, stdout=subprocess.PIPE, check=False).stdout:
+        yield "bin/live prints otherwise than tqd"
+    frame = last_frame(live(tqd, "--journals", kept.format("system"), "--plain", input=b"", env=os.environ | WINDOW))
+    if "open votes (1)" not in frame or "levels 2" not in frame:
+        yield f"bin/live over journals shows\n{frame}"
+    done = ran(tqd, "--journals", kept.format("stuck"), "--transcript", input=b"begin\n")
+    if (done.returncode, done.stdout, done.stderr) != (3, b"stuck 2 desk 1 view 1\n", b""):
+        yield f"bin/live over journals that are stuck: {done}"
 
 
 def frames(tq, folder):
@@ -210,5 +227,6 @@ def fresh(root, path):
 
 def faults(tq, folder):
     tests = [transcripts(tq), sizes(tq), boards(tq, folder), quickness(tq, folder), stops(tq, folder), own_lines(tq, folder), ends(tq, folder)]
+    tests.append(journals())
     tests.append(terminal.session(f"{ROOT}/bin/live", tq, folder))
     return [it for test in tests for it in test]

@@ -59,7 +59,7 @@ def upgraded(program, text):
 
 
 def content(text):
-    return text.encode().hex()
+    return text.encode("utf-8", "surrogateescape").hex()
 
 
 def writes(all_writes):

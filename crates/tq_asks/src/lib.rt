@@ -1,6 +1,5 @@
 //! What servers are asked, and what they reply.
 //!
-//! Files: `ask.rt` asks, replies, refusals, verdicts; `reason.rt` a refusal as a reply keeps it.
 //! Definitions: `specs/Citing` (the votes that a verdict cites), `Same` (equal verdicts), `Reasons`.
 #![tactic(auto)]
 

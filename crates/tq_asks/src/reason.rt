@@ -1,3 +1,5 @@
+//! A refusal as a reply keeps it.
+
 ghost use Rattle.std.specs.Prelude.{◌≡◌, IfOk};
 
 use crate::NodeRefusal;

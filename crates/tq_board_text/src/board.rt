@@ -1,3 +1,5 @@
+//! The whole text of a board.
+
 ghost use Rattle.std.specs.Prelude.{◌≡◌, ◌≤◌, IfOk, OnOk, string_bytes};
 ghost use Rattle.tq_board_text.specs.Board.{Appends, board_text, row_lines, server_lines};
 

@@ -1,3 +1,5 @@
+//! One line of the board for each kind of row.
+
 ghost use Rattle.std.specs.Prelude.{◌≡◌, OnOk};
 ghost use Rattle.tq_tables.specs.Rows.{least_in};
 ghost use Rattle.tq_tables.specs.Walk.{lent_row};

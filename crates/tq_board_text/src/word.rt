@@ -1,3 +1,5 @@
+//! Words and lists of words.
+
 ghost use Rattle.std.specs.Prelude.{◌≡◌, ◌+◌, ◌<◌, ◌∷◌, OnOk, map};
 ghost use Rattle.std.specs.Fmt.{decimal};
 ghost use Rattle.tq_tables.specs.Rows.{file_version};

@@ -43,3 +43,8 @@ receipts_of (p ∷ ps) = p.receipts ++ receipts_of ps
 abbrev pub IsToldBy : {S A R : Type 0} → (S → ℕ → A → R) → (S → ℕ → A → S) → (S → S) → ℕ → A → R → Type 0
 IsToldBy {S} {A} {R} reply after opening number ask answer =
     (s : S) × (journal : List (Entry A R)) × IsLegalFrom reply after (opening s) 1 journal × (1 ≤ number) × (slice_get journal (number - 1) ≡ Some (entry ask answer))
+
+-- it is a part of those settings
+abbrev pub IsToldByOneOf : {S A R : Type 0} → (S → Type 0) → (S → ℕ → A → R) → (S → ℕ → A → S) → (S → S) → ℕ → A → R → Type 0
+IsToldByOneOf {S} {A} {R} are_of reply after opening number ask answer =
+    (s : S) × are_of s × (journal : List (Entry A R)) × IsLegalFrom reply after (opening s) 1 journal × (1 ≤ number) × (slice_get journal (number - 1) ≡ Some (entry ask answer))

@@ -1,17 +1,21 @@
+//! The lock of a part, and what is asked under it.
+
 ghost use Rattle.std.specs.Prelude.{◌≡◌, ◌+◌, ◌∷◌, ◌++◌, [], ◌≤◌, ◌<◌, List, drop, max, vec_len, IfOk, IfErr, OnErr};
+ghost use Rattle.std.specs.Sync.Mutex.{mutex_guard_value};
 ghost use Rattle.tq_shape.specs.declared.entry.Entry.{Entry};
 ghost use Rattle.tq_shape.specs.Journal.{IsLegalFrom};
-ghost use Rattle.tq_cells.specs.Passes.{IsToldBy, IsUntaken, last_behind, seen_by, receipts_of};
+ghost use Rattle.tq_cells.specs.Passes.{IsToldBy, IsToldByOneOf, IsUntaken, last_behind, seen_by, receipts_of};
 
 use crate::CallFault;
 use crate::gate::Gate;
 use crate::held::Held;
 use crate::pass::Pass;
 use crate::receipt::Receipt;
+use crate::settings::Settings;
 use crate::told::{Twice, Untaken};
 use std::alloc::Global;
 use std::marker::Model;
-use std::sync::{Mutex, Wait};
+use std::sync::{Mutex, MutexGuard, Wait};
 use tq_part::{Answers, Journaled};
 use tq_shape::{Entry, Memory, Part};
 
@@ -79,27 +83,29 @@ impl<P: Answers> Cell<P> {
         receipt
     }
 
-    /// Asks the part as `call` does, and gives its number, the ask and the reply back, twice, in place of receipts: the pass
-    /// is told of the number alone. Answers `JournalFull` with the ask where the journal has as many entries as it may
-    /// have, and `Memory` where memory is refused: then part, journal and pass are as they were.
-    pub fn tell<R: Wait, G: Gate>(
+    /// Asks the part, which is of these settings, as `call` does, and gives its number, the ask and the reply back, twice, in
+    /// place of receipts: the pass is told of the number alone. Answers `JournalFull` with the ask where the journal has as
+    /// many entries as it may have, and `Memory` where memory is refused: then part, journal and pass are as they were.
+    /// A part of other settings is waited for, without end.
+    pub fn tell<R: Wait, G: Gate, S: Settings<P>>(
         &self,
         rt: &R,
         alloc: Global,
         pass: &mut Pass<P>,
         gate: &G,
+        settings: &S,
         ask: P::Ask,
     ) -> Result<Twice<P::Ask, P::Reply>, Untaken<P::Ask>>
         ensures asked { IfOk result (λ r. r.told.ask ≡ ask) }
         ensures kept { IfOk result (λ r. r.kept ≡ r.told) }
-        ensures reply { IfOk result (λ r.
-            IsToldBy P.reply P.after P.opening r.number r.told.ask r.told.reply) }
+        ensures reply { IfOk result (λ r. IsToldByOneOf (S.are_of settings.now)
+            P.reply P.after P.opening r.number r.told.ask r.told.reply) }
         ensures receipts { pass.new.receipts ≡ pass.old.receipts }
         ensures seen { IfOk result (λ r. pass.new.seen ≡ max pass.old.seen r.number) }
         ensures err { OnErr result (pass.new ≡ pass.old) }
         ensures fault { IfErr result (IsUntaken ask) }
     {
-        let mut held = self.held.lock(rt);
+        let mut held = self.lock(rt, settings);
         gate.holding(self.part);
         let told = held.answer(alloc, ask);
         drop(held);
@@ -108,6 +114,19 @@ impl<P: Answers> Cell<P> {
             pass.seen = pass.seen.max(told.number);
         }
         told
+    }
+
+    /// The lock, once it is had and the part is of these settings.
+    fn lock<R: Wait, S: Settings<P>>(&self, rt: &R, settings: &S) -> MutexGuard<'_, Held<P>>
+        ensures { S.are_of settings.now (mutex_guard_value result).part }
+    {
+        for _ in rt.forever() {
+            let held = self.held.lock(rt);
+            if settings.are_of_part(held.part()) {
+                return held;
+            }
+        }
+        unreachable!()
     }
 
     /// The entries after a number, none where the journal has fewer; the greatest number that the pass was told rises to

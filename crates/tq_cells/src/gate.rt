@@ -1,3 +1,5 @@
+//! Who is told of a call of a cell.
+
 use tq_shape::Part;
 
 /// Is told of each call of a cell. It changes no answer.

@@ -1,3 +1,5 @@
+//! What lies under the lock of a cell: the part and its journal.
+
 ghost use Rattle.std.specs.Prelude.{◌≡◌, ◌+◌, ◌∷◌, ◌++◌, [], ◌≤◌, ◌<◌, ◌↔◌, IsTrue, length, drop, max, vec_len, IfOk, IfErr, OnErr, IsErrOf};
 ghost use Rattle.tq_shape.specs.Journal.{IsLegalFrom, entry};
 ghost use Rattle.tq_part.specs.Agrees.{standing_part};
@@ -49,6 +51,13 @@ impl<P: Answers> Held<P> {
         ensures legal { IsLegalFrom P.reply P.after (P.opening self.now.part) 1 self.now.journal }
     {
         self.journaled.entries().len() == self.limit as usize
+    }
+
+    /// The part as its journal leaves it.
+    pub(crate) fn part(&self) -> &P
+        ensures { result.now ≡ self.now.part }
+    {
+        self.journaled.part()
     }
 
     /// Asks the part under the next number, and enters what it replies into the journal. The part judges the ask once, and

@@ -1,7 +1,5 @@
 //! Parts under a lock each, so that many threads may ask them at once.
 //!
-//! Files: `cell.rt` the lock; `held.rt` what lies under it; `pass.rt`, `receipt.rt`, `told.rt` what a caller was answered;
-//! `gate.rt` who is notified of a call.
 //! Definitions: `specs/Passes` (receipts and passes, and the legal journals that they come from).
 #![tactic(auto)]
 
@@ -10,11 +8,13 @@ mod gate;
 mod held;
 mod pass;
 mod receipt;
+mod settings;
 mod told;
 
 pub use cell::Cell;
 pub use gate::{Gate, OpenGate};
 pub use pass::Pass;
 pub use receipt::Receipt;
+pub use settings::Settings;
 pub use told::{Twice, Untaken};
 pub use tq_part::{Answers, Fault as CallFault};

@@ -1,3 +1,5 @@
+//! What a caller was told at one cell.
+
 ghost use Rattle.std.specs.Prelude.{◌≡◌, [], max};
 ghost use Rattle.tq_cells.specs.Passes.{seen_by};
 

@@ -1,3 +1,5 @@
+//! The receipt of one ask.
+
 ghost use Rattle.std.specs.Prelude.{◌≡◌};
 ghost use Rattle.tq_shape.specs.Journal.{entry};
 ghost use Rattle.tq_cells.specs.Passes.{told_reply};

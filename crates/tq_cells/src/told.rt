@@ -1,3 +1,5 @@
+//! What a part told of an ask, twice.
+
 use tq_shape::Entry;
 
 /// What a part told of an ask, twice: one entry to keep, and an equal one to hand on. It is plain data.

@@ -48,7 +48,7 @@ at_row_by : (Q : Row → Type 0) (row : Row) (rows changed others : List Row) (i
 at_row_by Q row rows changed others true here each changes later = EachRow-append Q changed rows changes each
 at_row_by Q row rows changed others false here each changes later = (here, later)
 
-at_row_keeps : (Q : Row → Type 0) (id : Text) (change : Row → List Row) (missing rows : List Row) → ((row : Row) → Q row → EachRow Q (change row)) → EachRow Q missing → EachRow Q rows → EachRow Q (at_row id change missing rows)
+pub at_row_keeps : (Q : Row → Type 0) (id : Text) (change : Row → List Row) (missing rows : List Row) → ((row : Row) → Q row → EachRow Q (change row)) → EachRow Q missing → EachRow Q rows → EachRow Q (at_row id change missing rows)
 at_row_keeps Q id change missing [] changes new each = new
 at_row_keeps Q id change missing (row ∷ rows) changes new each =
     at_row_by Q row rows (change row) (at_row id change missing rows) (bytes_eq row.id id) each.0 each.1 (changes row each.0) (at_row_keeps Q id change missing rows changes new each.1)
@@ -60,11 +60,11 @@ found_by Q name first row later true named here there is =
     subst P same (here, named)
 found_by Q name first row later false named here there is = there is
 
-row_found : (Q : Row → Type 0) (name : Text) (rows : List Row) (row : Row) → EachRow Q rows → find (λ r. bytes_eq r.id name) rows ≡ Some row → Q row × (bytes_eq row.id name ≡ true)
+pub row_found : (Q : Row → Type 0) (name : Text) (rows : List Row) (row : Row) → EachRow Q rows → find (λ r. bytes_eq r.id name) rows ≡ Some row → Q row × (bytes_eq row.id name ≡ true)
 row_found Q name [] row each is = absurd cc
 row_found Q name (first ∷ rows) row each is = found_by Q name first row (find (λ r. bytes_eq r.id name) rows) (bytes_eq first.id name) refl each.0 (row_found Q name rows row each.1) is
 
-some_kind : (kind : ErrorKind) (kinds : Kinds) → kind ∷ kinds ≡ [] → ⊥
+pub some_kind : (kind : ErrorKind) (kinds : Kinds) → kind ∷ kinds ≡ [] → ⊥
 some_kind kind kinds is = absurd cc
 
 -- a row of this name has a first value that passed the range
@@ -86,7 +86,7 @@ passed_by : (passes : Bool) → cond passes [] (kinds.ValueValidation ∷ []) �
 passed_by true clean = refl
 passed_by false clean = absurd (some_kind _ _ clean)
 
-rows_by : (P : List Row → Type 0) (rows : List Row) (has : Bool) → P rows → P (cond has rows rows)
+pub rows_by : (P : List Row → Type 0) (rows : List Row) (has : Bool) → P rows → P (cond has rows rows)
 rows_by P rows true kept = kept
 rows_by P rows false kept = kept
 
@@ -230,18 +230,18 @@ audit = unwrap_or (slice_get (built tq_app).subs 2) audit_app.top
 abbrev upgrade : Shape
 upgrade = unwrap_or (slice_get (built tq_app).subs 3) upgrade_app.top
 
-level_clean : (first below third fourth last : Kinds) → or_else first (or_else below (or_else third (or_else fourth last))) ≡ [] → (below ≡ []) × (last ≡ [])
+pub level_clean : (first below third fourth last : Kinds) → or_else first (or_else below (or_else third (or_else fourth last))) ≡ [] → (below ≡ []) × (last ≡ [])
 level_clean first below third fourth last clean =
     let walked = both_none first _ clean in
     let entered = both_none below _ walked.1 in
     let settled = both_none third _ entered.1 in
     (entered.0, (both_none fourth last settled.1).1)
 
-given_by : (is : Bool) → check_kinds false false (not is || (false || false)) ≡ [] → is ≡ true
+pub given_by : (is : Bool) → check_kinds false false (not is || (false || false)) ≡ [] → is ≡ true
 given_by true clean = refl
 given_by false clean = absurd (some_kind _ _ clean)
 
-wanted_by : (is_there : Bool) → check_kinds (not is_there && false) (not is_there && true) false ≡ [] → is_there ≡ true
+pub wanted_by : (is_there : Bool) → check_kinds (not is_there && false) (not is_there && true) false ≡ [] → is_there ≡ true
 wanted_by true clean = refl
 wanted_by false clean = absurd (some_kind _ _ clean)
 

@@ -1,2 +1,3 @@
 mod ParseLaws
 mod CommandLaws
+mod FileLaws

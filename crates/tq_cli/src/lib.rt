@@ -1,9 +1,10 @@
-//! The words of the command line.
+//! The words of the command lines.
 //!
-//! Files: `command.rt` the subcommands, their words and their help.
-//! Definitions: `specs/Command`; `proofs/ParseLaws`, `CommandLaws` clap's parse.
+//! Definitions: `specs/Command`, `Rehearsal`; `proofs/ParseLaws`, `CommandLaws`, `FileLaws` clap's parse.
 #![tactic(auto)]
 
 mod command;
+mod rehearsal;
 
 pub use command::{Words, WordsFault};
+pub use rehearsal::rehearsed_file;

@@ -1,3 +1,5 @@
+//! A client's script, line by line.
+
 ghost use Rattle.std.specs.Prelude.{◌≡◌, None, IfSome, IfOk};
 ghost use Rattle.std.specs.Result.{result_ok};
 ghost use Rattle.tq_txn.specs.Dialogue.{Follows};

@@ -85,7 +85,7 @@ pull-ok part old new more before after fresh known count x grew enough long saw 
       saw = took before after fresh known (prefix_length old part) (prefix_length new part) count saw told at long;
     }
 
-took_none : (seen : ℕ) (old new : JournalsView) (part : Part) → new ≡ old → seen ≡ max seen (last_behind (prefix_length old part) (prefix_length new part - prefix_length old part))
+pub took_none : (seen : ℕ) (old new : JournalsView) (part : Part) → new ≡ old → seen ≡ max seen (last_behind (prefix_length old part) (prefix_length new part - prefix_length old part))
 took_none seen old new part same =
     subst (λ (o : JournalsView). seen ≡ max seen (last_behind (prefix_length old part) (prefix_length o part - prefix_length old part))) (sym same) (stays seen (prefix_length old part))
 

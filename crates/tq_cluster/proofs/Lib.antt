@@ -9,3 +9,4 @@ pub mod Callers
 pub mod Begun
 pub mod Crossing
 pub mod Came
+pub mod InTurn

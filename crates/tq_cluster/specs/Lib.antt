@@ -1,4 +1,5 @@
 pub mod Cluster
+pub mod Own
 pub mod Told
 pub mod Closes
 pub mod Pulls

@@ -1,5 +1,5 @@
 -- What pulls do to the prefixes on a board.
-use Rattle.std.specs.Prelude.{◌≡◌, ◌≤◌, ◌<◌, ◌-◌, ℕ, max, List, [], ◌∷◌, ◌++◌, Result, OnOk, OnErr, IfErr, ⊤}
+use Rattle.std.specs.Prelude.{◌≡◌, ◌≤◌, ◌<◌, ◌-◌, ◌^◌, ◌⊎◌, ℕ, zero, suc, max, List, [], ◌∷◌, ◌++◌, Result, Ok, Err, OnOk, OnErr, IfErr, ⊤}
 use Rattle.tq_shape.specs.declared.part.Part.{Part}
 use Rattle.tq_shape.specs.declared.part.Part.TheVariants as parts
 use Rattle.tq_desk.specs.DeskJournal.{DeskEntry}
@@ -10,7 +10,7 @@ use Rattle.tq_mirror.specs.declared.fault.PullFault.{PullFault}
 use Rattle.tq_mirror.specs.declared.fault.PullFault.TheVariants as faults
 use Rattle.tq_mirror.specs.Prefixes.{IsForeign, IsPartOf, IsPullFault, journals_with, prefix_length}
 use Rattle.tq_mirror.specs.Astray.{ComesBefore}
-use Rattle.tq_cluster.specs.Told.{CallerView, seen_of}
+use Rattle.tq_cluster.specs.Told.{CallerView, having_seen, seen_of}
 
 -- each list is the one at its place before with more behind it
 abbrev pub EachContinues : {E : Type 0} → List (List E) → List (List E) → Type 0
@@ -50,6 +50,33 @@ pub record IsPull {T : Type 0} (part : Part) (old new : JournalsView) (before af
 -- the greatest number that a caller was told of the part then
 abbrev pub seen_then : JournalsView → JournalsView → CallerView → Part → ℕ
 seen_then old new caller part = max (seen_of caller part) (last_come old new part)
+
+-- a pull of the part was taken: its prefix grew and has what the caller has seen of it, who was told of just what came
+pub record IsPulled (part : Part) (old new : JournalsView) (been caller : CallerView) : Type 0 where
+  pub grows : (more : Entries) × (new ≡ journals_with old part more)
+  pub seen : seen_of caller part ≤ prefix_length new part
+  pub saw : caller ≡ having_seen been part (seen_then old new been part)
+
+-- it was not, and all is as it was
+pub record IsNotPulled (part : Part) (old new : JournalsView) (been caller : CallerView) (fault : PullFault) : Type 0 where
+  pub same_board : new ≡ old
+  pub same_caller : caller ≡ been
+  pub why : (more : Entries) × IsPullFault old part more (seen_of been part) fault
+
+-- the parts were pulled one after another, up to one that was not, or all: so the pull ended
+abbrev pub ArePulled : List Part → JournalsView → JournalsView → CallerView → CallerView → Result (Unit {0}) PullFault → Type 0
+ArePulled [] old new been caller end = (new ≡ old) × (caller ≡ been) × (end ≡ Ok tt)
+ArePulled (part ∷ rest) old new been caller end =
+    ((fault : PullFault) × (end ≡ Err fault) × IsNotPulled part old new been caller fault)
+    ⊎ ((next : JournalsView) × (seen : CallerView) × IsPulled part old next been seen × ArePulled rest next new seen caller end)
+
+-- so many servers upwards from that number; and all parts of a system, in the order in which they are pulled
+abbrev pub servers_from : ℕ → ℕ → List Part
+servers_from first zero = []
+servers_from first (suc more) = parts.Server first ∷ servers_from (suc first) more
+
+abbrev pub parts_of : ℕ → List Part
+parts_of levels = servers_from 1 (2 ^ levels - 1) ++ parts.Desk ∷ parts.View ∷ []
 
 -- of each part the caller was told just of the entries that came onto the board
 abbrev pub SawWhatCame : JournalsView → JournalsView → CallerView → CallerView → Type 0

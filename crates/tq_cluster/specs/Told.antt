@@ -1,9 +1,10 @@
 -- What a caller of a cluster was told.
 use Rattle.std.specs.Prelude.{◌≡◌, ◌≤◌, ◌⊎◌, ℕ, ◌-◌, ◌^◌, List, [], ◌∷◌, Result, Ok, Err, IfOk, IfErr, OnErr, get_or, max, set, replicate}
 use Rattle.std.specs.List.{AllByRecursion}
+use Rattle.tq_shape.specs.Limits.{LimitsView}
 use Rattle.tq_shape.specs.declared.part.Part.{Part}
 use Rattle.tq_shape.specs.declared.part.Part.TheVariants as parts
-use Rattle.tq_cells.specs.Passes.{IsToldBy}
+use Rattle.tq_cells.specs.Passes.{IsToldByOneOf}
 use Rattle.tq_asks.specs.declared.ask.NodeAsk.{NodeAsk}
 use Rattle.tq_asks.specs.declared.ask.NodeReply.{NodeReply}
 use Rattle.tq_node.specs.Records.{node_reply}
@@ -23,6 +24,7 @@ use Rattle.tq_txn.specs.Dialogue.{Told, unless_memory}
 use Rattle.tq_part.specs.declared.fault.AskFault.{AskFault}
 use Rattle.tq_part.specs.declared.fault.AskFault.TheVariants as faults
 use Rattle.tq_cluster.specs.declared.asked.Numbered.{Numbered}
+use Rattle.tq_cluster.specs.Own.{IsServerOf, IsDeskOf, IsViewOf}
 
 -- of each part the greatest number of an entry that one was told of, 0 where of none: of the servers upwards from server 1,
 -- of the desk and of the view
@@ -76,30 +78,31 @@ abbrev pub exchanges_of : {A R : Type 0} → (A → Told R → Exchange) → A �
 exchanges_of exchange ask (Ok told) = exchange ask (Ok (record { number = told.number; reply = told.reply })) ∷ []
 exchanges_of exchange ask (Err fault) = unless_memory fault (exchange ask (Err fault))
 
--- a legal journal of some server has this entry at this number; of some desk; of some view
-abbrev pub IsToldByServer : ℕ → NodeAsk → NodeReply → Type 0
-IsToldByServer = IsToldBy (λ (s : NodeView) (n : ℕ) (a : NodeAsk). node_reply s.server s.state a) (λ s n a. server_after s n a) (λ s. node.opening_server s.levels s.server)
+-- a legal journal of the server of that number in such a tree has this entry at this number; of the desk of such a system; of
+-- the view of such a tree
+abbrev pub IsToldByServer : ℕ → ℕ → ℕ → NodeAsk → NodeReply → Type 0
+IsToldByServer levels server = IsToldByOneOf (IsServerOf levels server) (λ (s : NodeView) (n : ℕ) (a : NodeAsk). node_reply s.server s.state a) (λ s n a. server_after s n a) (λ s. node.opening_server s.levels s.server)
 
-abbrev pub IsToldByDesk : ℕ → DeskAsk → DeskReply → Type 0
-IsToldByDesk = IsToldBy (λ (s : DeskView) (n : ℕ) (a : DeskAsk). desk_reply s a) (λ s n a. desk_after s a) (λ s. desk.opening_desk s.levels s.limits)
+abbrev pub IsToldByDesk : ℕ → LimitsView → ℕ → DeskAsk → DeskReply → Type 0
+IsToldByDesk levels limits = IsToldByOneOf (IsDeskOf levels limits) (λ (s : DeskView) (n : ℕ) (a : DeskAsk). desk_reply s a) (λ s n a. desk_after s a) (λ s. desk.opening_desk s.levels s.limits)
 
-abbrev pub IsToldByView : ℕ → ViewAsk → ViewReply → Type 0
-IsToldByView = IsToldBy (λ (s : Live) (n : ℕ) (a : ViewAsk). view_reply s a) (λ s n a. view_after s a) (λ s. view_state s.levels [])
+abbrev pub IsToldByView : ℕ → ℕ → ViewAsk → ViewReply → Type 0
+IsToldByView levels = IsToldByOneOf (IsViewOf levels) (λ (s : Live) (n : ℕ) (a : ViewAsk). view_reply s a) (λ s n a. view_after s a) (λ s. view_state s.levels [])
 
--- the exchange is one of a part: what was told stands so in a legal journal of some part of its kind; or the ask was not
--- taken since the part's journal is full
-abbrev pub IsOfPart : Exchange → Type 0
-IsOfPart (exchanges.Node server ask (Ok told)) = IsToldByServer told.number ask told.reply
-IsOfPart (exchanges.Node server ask (Err fault)) = fault ≡ faults.JournalFull (parts.Server server)
-IsOfPart (exchanges.Desk ask (Ok told)) = IsToldByDesk told.number ask told.reply
-IsOfPart (exchanges.Desk ask (Err fault)) = fault ≡ faults.JournalFull parts.Desk
-IsOfPart (exchanges.View ask (Ok told)) = IsToldByView told.number ask told.reply
-IsOfPart (exchanges.View ask (Err fault)) = fault ≡ faults.JournalFull parts.View
+-- the exchange is one of a part of a system with so many levels: what was told stands so in a legal journal of that part, of the
+-- desk by some limits; or the ask was not taken since the part's journal is full
+abbrev pub IsOfPart : ℕ → Exchange → Type 0
+IsOfPart levels (exchanges.Node server ask (Ok told)) = IsToldByServer levels server told.number ask told.reply
+IsOfPart levels (exchanges.Node server ask (Err fault)) = fault ≡ faults.JournalFull (parts.Server server)
+IsOfPart levels (exchanges.Desk ask (Ok told)) = (limits : LimitsView) × IsToldByDesk levels limits told.number ask told.reply
+IsOfPart levels (exchanges.Desk ask (Err fault)) = fault ≡ faults.JournalFull parts.Desk
+IsOfPart levels (exchanges.View ask (Ok told)) = IsToldByView levels told.number ask told.reply
+IsOfPart levels (exchanges.View ask (Err fault)) = fault ≡ faults.JournalFull parts.View
 
 -- each of these exchanges is
-abbrev pub AreOfParts : List Exchange → Type 0
-AreOfParts told = AllByRecursion IsOfPart told
+abbrev pub AreOfParts : ℕ → List Exchange → Type 0
+AreOfParts levels told = AllByRecursion (IsOfPart levels) told
 
--- all that these callers were told was told by parts
+-- all that these callers were told was told by parts of the systems that they ask
 abbrev pub AreToldByParts : List CallerView → Type 0
-AreToldByParts callers = AllByRecursion (λ (c : CallerView). AreOfParts c.told) callers
+AreToldByParts callers = AllByRecursion (λ (c : CallerView). AreOfParts c.levels c.told) callers

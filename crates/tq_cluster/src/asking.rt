@@ -1,3 +1,5 @@
+//! A caller as what lines run over.
+
 ghost use Rattle.std.specs.Prelude.{◌≡◌};
 
 use crate::caller::Caller;

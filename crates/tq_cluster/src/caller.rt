@@ -1,3 +1,5 @@
+//! A caller: a pass for each part, and what it was told.
+
 ghost use Rattle.std.specs.Prelude.{◌≡◌, ◌+◌, ◌^◌, [], map, vec_len};
 
 use std::alloc::Global;
@@ -12,7 +14,7 @@ use tq_txn::Exchange;
 /// One who asks the parts of a cluster: a pass for each part, and what it was told of its asks, in their order. All of
 /// this was told by parts.
 pub struct Caller {
-    levels: Levels,
+    pub(crate) levels: Levels,
     pub(crate) servers: Vec<Pass<Node>>,
     pub(crate) desk: Pass<Desk>,
     pub(crate) view: Pass<View>,
@@ -49,7 +51,7 @@ impl Model for Caller {
     } };
 
     ghost invariant = { λ c.
-        (length c.servers.items + 1 ≡ 2 ^ c.levels) × AreOfParts c.told.items };
+        (length c.servers.items + 1 ≡ 2 ^ c.levels) × AreOfParts c.levels c.told.items };
 }
 
 impl Caller {

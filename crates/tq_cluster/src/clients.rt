@@ -1,3 +1,5 @@
+//! Clients and workers in threads of their own.
+
 ghost use Rattle.std.specs.Prelude.{◌≡◌, ◌<◌, ◌≤◌, ◌+◌, ◌-◌, ℕ, [], ◌∷◌, ◌++◌, List, length, vec_len, vec_capacity, true, false};
 ghost use Rattle.crossbeam_channel.specs.Claims.{view};
 ghost use Rattle.crossbeam_channel.specs.Ends.{sends_on};
@@ -10,7 +12,7 @@ ghost use Rattle.tq_cluster.specs.Backwards.{BeganBackwards, HaveBegun, IsClient
 use crate::asking::Asking;
 use crate::caller::Caller;
 use crate::cluster::Cluster;
-use crate::workers::{Message, Team, either, run_workers};
+use crate::workers::{Ended, Message, Team, either, run_workers};
 use std::alloc::Global;
 use std::snapshot::Snapshot;
 use std::sync::Wait;
@@ -32,6 +34,8 @@ pub struct Ran {
     pub callers: Vec<Caller>,
     /// Memory was refused to one of them, or to the queue, the board or a thread.
     pub memory: bool,
+    /// Each of them was made, so that none is missing. Where it is not so, memory was refused.
+    pub whole: bool,
 }
 
 /// The caller that a thread made and ran a script by, if one could be made, and whether memory was refused.
@@ -75,22 +79,33 @@ impl<'a> Promise<Client> for Follows<'a> {
     ghost kept_by = { λ p r. IsClient p.0 p.1 p.2.now r.memory r.caller };
 }
 
-/// Puts the caller behind those that are there, if it was made.
-fn put_made(callers: &mut Vec<Caller>, made: Option<Caller>)
+/// Puts the caller behind those that are there, if it was made, and says so.
+fn put_made(callers: &mut Vec<Caller>, made: Option<Caller>) -> bool
     requires { vec_len callers.old < vec_capacity callers.old }
     ensures items { callers.new.items ≡ callers.old.items ++ if_made made }
+    ensures whole { result ≡ true → vec_len callers.new ≡ vec_len callers.old + 1 }
     ensures len { vec_len callers.new ≤ vec_len callers.old + 1 }
     ensures room { vec_capacity callers.new ≡ vec_capacity callers.old }
 {
     match made {
-        Some(caller) => callers.push_reserved(caller),
-        None => (),
+        Some(caller) => {
+            callers.push_reserved(caller);
+            true
+        }
+        None => false,
     }
+}
+
+/// Whether both are so.
+fn both(one: bool, other: bool) -> bool
+    ensures { result ≡ true → (one ≡ true) × (other ≡ true) }
+{
+    one && other
 }
 
 /// Runs each script in a thread of its own, and then the workers, and puts all callers behind those that are there, the
 /// one that was made last first: also where another thread is refused, or memory for its caller. A script whose thread is
-/// refused has no caller. Whether memory was refused.
+/// refused has no caller.
 fn run_all<'s, 'e: 's, R: Threads + Wait + Sync, G: Gate + Drop + Sync>(
     scope: &'s Scope<'s, &'e ()>,
     rt: &'e R,
@@ -100,17 +115,20 @@ fn run_all<'s, 'e: 's, R: Threads + Wait + Sync, G: Gate + Drop + Sync>(
     team: Team,
     putter: &mut Putter<Message>,
     callers: &mut Vec<Caller>,
-) -> bool
+) -> Ended
     requires parts { team.workers < (view putter.old.pass).parts }
     requires room { vec_len callers.old + length scripts.now + team.workers + 1
         ≤ vec_capacity callers.old }
-    ensures ran { result ≡ false → (more : List CallerView) × (taken : List (ℕ × Message))
+    ensures ran { result.memory ≡ false → (more : List CallerView) × (taken : List (ℕ × Message))
         × (callers.new.items ≡ callers.old.items ++ more)
         × ((view putter.new.pass).taken ≡ (view putter.old.pass).taken ++ taken)
         × RunBackwards cluster.now.levels cluster.now.limits scripts.now team.workers taken more }
     ensures began { HaveBegun cluster.now.levels cluster.now.limits scripts.now
         callers.old.items callers.new.items }
-    ensures parts { result ≡ false → (view putter.new.pass).parts ≡ (view putter.old.pass).parts }
+    ensures parts { result.memory ≡ false
+        → (view putter.new.pass).parts ≡ (view putter.old.pass).parts }
+    ensures whole { result.whole ≡ true → vec_len callers.new
+        ≡ vec_len callers.old + length scripts.now + team.workers + 1 }
     ensures len { vec_len callers.new
         ≤ vec_len callers.old + length scripts.now + team.workers + 1 }
     ensures room { vec_capacity callers.new ≡ vec_capacity callers.old }
@@ -127,17 +145,23 @@ fn run_all<'s, 'e: 's, R: Threads + Wait + Sync, G: Gate + Drop + Sync>(
     );
     match started {
         Ok(child) => {
-            let memory = run_all(scope, rt, alloc, cluster, rest, team, putter, callers);
+            let ended = run_all(scope, rt, alloc, cluster, rest, team, putter, callers);
             let Client {
                 caller,
                 memory: mine,
             } = child.join(rt);
-            put_made(callers, caller);
-            either(memory, mine)
+            let made = put_made(callers, caller);
+            Ended {
+                memory: either(ended.memory, mine),
+                whole: both(ended.whole, made),
+            }
         }
         Err(refused) => {
             drop(refused);
-            true
+            Ended {
+                memory: true,
+                whole: false,
+            }
         }
     }
 }
@@ -148,7 +172,7 @@ fn run_all<'s, 'e: 's, R: Threads + Wait + Sync, G: Gate + Drop + Sync>(
 struct JoinedRun {
     callers: Vec<Caller>,
     queue: Snapshot<Putter<Message>>,
-    memory: bool,
+    ended: Ended,
 }
 
 /// Runs the scripts and the workers in threads, and joins them. Unless memory was refused, what the workers took together
@@ -166,28 +190,32 @@ fn run_in_threads<R: Threads + Wait + Sync, G: Gate + Drop + Sync>(
     requires room { length scripts.now + team.workers + 1 ≤ vec_capacity callers }
     requires empty { callers.items ≡ [] }
     requires fresh { view putter.pass ≡ hand 1024 true [] [] }
-    ensures ran { result.memory ≡ false
+    ensures ran { result.ended.memory ≡ false
         → RunBackwards cluster.now.levels cluster.now.limits scripts.now team.workers
         (view result.queue.value.pass).taken result.callers.items }
     ensures began { BeganBackwards cluster.now.levels cluster.now.limits scripts.now
         result.callers.items }
-    ensures once { result.memory ≡ false → (items : List Message) × IsPrefixTaken
+    ensures whole { result.ended.whole ≡ true
+        → vec_len result.callers ≡ length scripts.now + team.workers + 1 }
+    ensures once { result.ended.memory ≡ false → (items : List Message) × IsPrefixTaken
         (view result.queue.value.pass).put (view result.queue.value.pass).taken items }
 {
-    let (callers, mut putter, memory) = thread::scope(
+    let (callers, mut putter, ended) = thread::scope(
         thread::scope_env(),
         rt,
-        |scope| -> (Vec<Caller>, Putter<Message>, bool)
+        |scope| -> (Vec<Caller>, Putter<Message>, Ended)
             requires { (team.workers ≤ 2)
                 × (vec_len callers + length scripts.now + team.workers + 1 ≤ vec_capacity callers)
                 × (callers.items ≡ []) × (view putter.pass ≡ hand 1024 true [] []) }
-            ensures { (result.2 ≡ false → RunBackwards cluster.entry.now.levels
+            ensures { (result.2.memory ≡ false → RunBackwards cluster.entry.now.levels
                 cluster.entry.now.limits scripts.entry.now team.workers (view result.1.pass).taken
                 result.0.items × ((view result.1.pass).parts ≡ 1024))
                 × BeganBackwards cluster.entry.now.levels cluster.entry.now.limits
-                scripts.entry.now result.0.items }
+                scripts.entry.now result.0.items
+                × (result.2.whole ≡ true → vec_len result.0
+                ≡ length scripts.entry.now + team.workers + 1) }
         {
-            let memory = run_all(
+            let ended = run_all(
                 scope,
                 rt,
                 alloc,
@@ -197,22 +225,22 @@ fn run_in_threads<R: Threads + Wait + Sync, G: Gate + Drop + Sync>(
                 &mut putter,
                 &mut callers,
             );
-            (callers, putter, memory)
+            (callers, putter, ended)
         },
     );
     let queue = Snapshot::of(&putter);
-    if memory {
+    if ended.memory {
         return JoinedRun {
             callers,
             queue,
-            memory: true,
+            ended,
         };
     }
     putter.settle();
     JoinedRun {
         callers,
         queue,
-        memory: false,
+        ended,
     }
 }
 
@@ -247,6 +275,8 @@ impl<G: Gate + Drop + Sync> Cluster<G> {
             → AllRan self.now.levels self.now.limits scripts.items workers result.callers.items }
         ensures began { AllBegan self.now.levels self.now.limits scripts.items
             result.callers.items }
+        ensures whole { result.whole ≡ true
+            → vec_len result.callers ≡ vec_len scripts + workers + 1 }
         ensures told { AreToldByParts result.callers.items }
     {
         let mut callers = Vec::new(alloc);
@@ -255,22 +285,28 @@ impl<G: Gate + Drop + Sync> Cluster<G> {
             return Ran {
                 callers,
                 memory: true,
+                whole: false,
             };
         }
         let Ok(putter) = Putter::new(alloc, ROOM) else {
             return Ran {
                 callers,
                 memory: true,
+                whole: false,
             };
         };
         let team = Team { workers, rounds };
         let JoinedRun {
             mut callers,
             queue: _,
-            memory,
+            ended,
         } = run_in_threads(rt, alloc, self, scripts.as_slice(), team, putter, callers);
         callers.reverse();
         see_told(callers.as_slice());
-        Ran { callers, memory }
+        Ran {
+            callers,
+            memory: ended.memory,
+            whole: ended.whole,
+        }
     }
 }

@@ -1,3 +1,5 @@
+//! The close of a cluster: an order of all entries, or why there is none.
+
 ghost use Rattle.std.specs.Prelude.{◌≡◌, map, IfOk, IfErr};
 ghost use Rattle.tq_world.specs.Steps.{run};
 ghost use Rattle.tq_world.specs.CommittedReads.{HasCommittedReads};

@@ -1,3 +1,5 @@
+//! The cells of all parts, and the calls of each.
+
 ghost use Rattle.std.specs.Prelude.{◌≡◌, ◌≤◌, ◌<◌, ◌+◌, ◌^◌, ◌++◌, ℕ, [], length, map, replicate, IfOk, vec_len, vec_capacity};
 ghost use Rattle.tq_txn.specs.Dialogue.{node_exchange, desk_exchange, view_exchange};
 ghost use Rattle.tq_tables.specs.Parts.{AreLegal};
@@ -6,6 +8,7 @@ ghost use Rattle.tq_cluster.specs.Told.{IsHeard, IsToldByServer, IsToldByDesk, I
 use crate::asked::{Numbered, ask_part};
 use crate::caller::Caller;
 use crate::journals::{desk_journal, server_journals, view_journal};
+use crate::own::{OwnDesk, OwnServer, OwnView};
 use std::alloc::Global;
 use std::marker::Model;
 use std::sync::Wait;
@@ -159,17 +162,23 @@ impl<G: Gate + Drop> Cluster<G> {
         ensures exchanges { caller.new.told
             ≡ caller.old.told ++ node_exchange server.number ask result }
         ensures same { IfOk result (λ t. (t.server ≡ server.number) × (t.ask ≡ ask)) }
-        ensures reply { IfOk result (λ t. IsToldByServer t.number t.ask t.reply) }
+        ensures reply { IfOk result (λ t.
+            IsToldByServer caller.old.levels server.number
+            t.number t.ask t.reply) }
         ensures heard { IsHeard (Part.Server server.number) result (λ t. t.number)
             caller.old caller.new }
     {
         let number = server.number();
+        let own = OwnServer {
+            levels: caller.levels,
+            number,
+        };
         let place = (number - 1) as usize;
         let cell = &self.servers[place];
         let pass = &mut caller.servers[place];
         let told = &mut caller.told;
         let part = Part::Server(number);
-        let entry = ask_part(rt, alloc, cell, &self.gate, part, pass, told, ask)?;
+        let entry = ask_part(rt, alloc, cell, &self.gate, part, &own, pass, told, ask)?;
         Ok(NodeTold {
             server: number,
             number: entry.number,
@@ -191,13 +200,28 @@ impl<G: Gate + Drop> Cluster<G> {
         requires { caller.old.levels ≡ self.now.levels }
         ensures exchanges { caller.new.told ≡ caller.old.told ++ desk_exchange ask result }
         ensures same { IfOk result (λ t. t.ask ≡ ask) }
-        ensures reply { IfOk result (λ t. IsToldByDesk t.number t.ask t.reply) }
+        ensures reply { IfOk result (λ t.
+            IsToldByDesk caller.old.levels self.now.limits t.number t.ask t.reply) }
         ensures heard { IsHeard Part.Desk result (λ t. t.number) caller.old caller.new }
     {
+        let own = OwnDesk {
+            levels: caller.levels,
+            limits: self.limits,
+        };
         let cell = &self.desk;
         let pass = &mut caller.desk;
         let told = &mut caller.told;
-        let entry = ask_part(rt, alloc, cell, &self.gate, Part::Desk, pass, told, ask)?;
+        let entry = ask_part(
+            rt,
+            alloc,
+            cell,
+            &self.gate,
+            Part::Desk,
+            &own,
+            pass,
+            told,
+            ask,
+        )?;
         let Numbered { number, ask, reply } = entry;
         Ok(DeskTold { number, ask, reply })
     }
@@ -213,13 +237,27 @@ impl<G: Gate + Drop> Cluster<G> {
         requires { caller.old.levels ≡ self.now.levels }
         ensures exchanges { caller.new.told ≡ caller.old.told ++ view_exchange ask result }
         ensures same { IfOk result (λ t. t.ask ≡ ask) }
-        ensures reply { IfOk result (λ t. IsToldByView t.number t.ask t.reply) }
+        ensures reply { IfOk result (λ t.
+            IsToldByView caller.old.levels t.number t.ask t.reply) }
         ensures heard { IsHeard Part.View result (λ t. t.number) caller.old caller.new }
     {
+        let own = OwnView {
+            levels: caller.levels,
+        };
         let cell = &self.view;
         let pass = &mut caller.view;
         let told = &mut caller.told;
-        let entry = ask_part(rt, alloc, cell, &self.gate, Part::View, pass, told, ask)?;
+        let entry = ask_part(
+            rt,
+            alloc,
+            cell,
+            &self.gate,
+            Part::View,
+            &own,
+            pass,
+            told,
+            ask,
+        )?;
         let Numbered { number, ask, reply } = entry;
         Ok(ViewTold { number, ask, reply })
     }

@@ -1,3 +1,5 @@
+//! What comes of a close: the journals and their order.
+
 ghost use Rattle.std.specs.Prelude.{◌≡◌, MatchOption, IfOk, IfErr, IfNone};
 ghost use Rattle.tq_world.specs.Steps.{run};
 ghost use Rattle.tq_world.specs.CommittedReads.{HasCommittedReads};

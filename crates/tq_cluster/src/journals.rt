@@ -1,3 +1,5 @@
+//! The journals under the locks, copied or taken out.
+
 ghost use Rattle.std.specs.Prelude.{◌≡◌, ◌≤◌, [], map, reverse, length, vec_len, vec_capacity};
 ghost use Rattle.std.specs.List.{All};
 ghost use Rattle.tq_node.specs.NodeJournal.{IsLegalNode};

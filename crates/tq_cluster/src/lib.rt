@@ -1,9 +1,6 @@
 //! The running cluster: each part of a system in a cell of its own, and callers that many threads may have.
 //!
-//! Files: `cluster.rt` the cells and the three calls; `asked.rt`, `recorded.rt` a call of any part; `caller.rt`, `asking.rt` a
-//! caller; `clients.rt`, `workers.rt`, `rounds.rt` threads; `live_board.rt` a board; `close.rt`, `explained.rt`, `journals.rt`
-//! the close.
-//! Definitions: `specs/Cluster`, `Told`, `Pulls`, `Rounds`, `Clients`, `Closes`; `Backwards` is the code's own word.
+//! Definitions: `specs/Cluster`, `Own`, `Told`, `Pulls`, `Rounds`, `Clients`, `Closes`; `Backwards` is the code's own word.
 #![tactic(auto)]
 
 mod asked;
@@ -15,6 +12,7 @@ mod cluster;
 mod explained;
 mod journals;
 mod live_board;
+mod own;
 mod recorded;
 mod rounds;
 mod workers;

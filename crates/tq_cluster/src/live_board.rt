@@ -1,10 +1,12 @@
+//! A board of a running cluster, pulled part by part.
+
 ghost use Rattle.std.specs.Prelude.{◌≡◌, ◌≤◌, ◌-◌, ◌^◌, IfOk, IfErr, OnOk, OnErr};
 ghost use Rattle.tq_shape.specs.Tree.{IsServer};
 ghost use Rattle.tq_tables.specs.Parts.{AreLegal};
 ghost use Rattle.tq_tables.specs.Tables.{tables_of};
 ghost use Rattle.tq_mirror.specs.Prefixes.{IsPartOf, IsPullFault, journals_with, nothing_pulled, prefix_length, server_prefix};
 ghost use Rattle.tq_cluster.specs.Told.{SeesOn, having_seen, seen_of};
-ghost use Rattle.tq_cluster.specs.Pulls.{Continues, EndedAt, HasSeenAll, HasSeenServers, IsPull, SawWhatCame, seen_then};
+ghost use Rattle.tq_cluster.specs.Pulls.{ArePulled, Continues, EndedAt, HasSeenAll, HasSeenServers, IsPull, SawWhatCame, parts_of, seen_then, servers_from};
 
 use crate::caller::Caller;
 use crate::cluster::Cluster;
@@ -139,8 +141,7 @@ impl LiveBoard {
     }
 
     /// Pulls all parts through the caller: the servers upwards, the desk and the view. Answers the fault of the first part
-    /// that is not pulled; the parts before it stay pulled, and nothing is pulled of those after it. Of `Memory`, which
-    /// names no part, the clauses say no more than that each part goes on.
+    /// that is not pulled; the parts before it stay pulled, and nothing is pulled of those after it. `Memory` names no part.
     pub fn pull<R: Wait, G: Gate + Drop>(
         &mut self,
         rt: &R,
@@ -151,6 +152,8 @@ impl LiveBoard {
         requires caller { caller.old.levels ≡ cluster.now.levels }
         requires levels { self.old.levels ≡ cluster.now.levels }
         requires limits { self.old.limits ≡ cluster.now.limits }
+        ensures pulls { ArePulled (parts_of cluster.now.levels)
+            self.old self.new caller.old caller.new result }
         ensures continues { Continues self.old self.new }
         ensures seen { OnOk result (HasSeenAll self.new caller.new) }
         ensures fault { IfErr result (EndedAt self.new caller.new) }
@@ -181,6 +184,8 @@ impl LiveBoard {
         requires caller { caller.old.levels ≡ cluster.now.levels }
         requires levels { self.old.levels ≡ cluster.now.levels }
         requires limits { self.old.limits ≡ cluster.now.limits }
+        ensures pulls { ArePulled (servers_from 1 (2 ^ cluster.now.levels - 1))
+            self.old self.new caller.old caller.new result }
         ensures continues { Continues self.old self.new }
         ensures seen { OnOk result
             (HasSeenServers self.new caller.new (2 ^ cluster.now.levels - 1)) }

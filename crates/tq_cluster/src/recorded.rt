@@ -1,3 +1,5 @@
+//! What is the same of a call of a server, of the desk and of the view.
+
 ghost use Rattle.std.specs.Prelude.{◌≡◌};
 ghost use Rattle.tq_txn.specs.declared.asker.Exchange.TheVariants as exchanges;
 ghost use Rattle.tq_cluster.specs.Told as spec;

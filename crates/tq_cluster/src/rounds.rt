@@ -1,4 +1,6 @@
-ghost use Rattle.std.specs.Prelude.{◌≡◌, ◌≤◌, ◌<◌, ◌+◌, ℕ, [], ◌∷◌, ◌++◌, List, false, vec_len, vec_capacity};
+//! Rounds of refreshes: the board is pulled, and its jobs are put.
+
+ghost use Rattle.std.specs.Prelude.{◌≡◌, ◌≤◌, ◌<◌, ◌+◌, ℕ, [], ◌∷◌, ◌++◌, List, false, true, vec_len, vec_capacity};
 ghost use Rattle.std.specs.Bool.{OnTrue};
 ghost use Rattle.crossbeam_channel.specs.Claims.{view};
 ghost use Rattle.crossbeam_channel.specs.Ends.{sends_on};
@@ -12,7 +14,7 @@ ghost use Rattle.tq_cluster.specs.Backwards.{HaveBegun, WorkBackwards};
 use crate::caller::Caller;
 use crate::cluster::Cluster;
 use crate::live_board::LiveBoard;
-use crate::workers::{Message, Team, either};
+use crate::workers::{Ended, Message, Team, either};
 use std::alloc::Global;
 use std::sync::Wait;
 use tq_cells::Gate;
@@ -166,7 +168,7 @@ fn is_memory(round: Round) -> bool
 }
 
 /// Pulls the board so often as the team says, by a caller of its own, and puts the jobs of each round; then it puts a
-/// stop for each worker. Its caller is put behind those that are there. Whether memory was refused, in whichever round.
+/// stop for each worker. Its caller is put behind those that are there. Memory is told of whichever round it was refused in.
 pub(crate) fn run_rounds<R: Wait, G: Gate + Drop>(
     rt: &R,
     alloc: Global,
@@ -174,31 +176,38 @@ pub(crate) fn run_rounds<R: Wait, G: Gate + Drop>(
     team: Team,
     putter: &mut Putter<Message>,
     callers: &mut Vec<Caller>,
-) -> bool
+) -> Ended
     requires room { vec_len callers.old + 1 ≤ vec_capacity callers.old }
-    ensures ran { result ≡ false → (more : List CallerView) × (taken : List (ℕ × Message))
+    ensures ran { result.memory ≡ false → (more : List CallerView) × (taken : List (ℕ × Message))
         × (callers.new.items ≡ callers.old.items ++ more)
         × ((view putter.new.pass).taken ≡ (view putter.old.pass).taken ++ taken)
         × WorkBackwards cluster.now.levels 0 taken more }
-    ensures rounds { result ≡ false → (board : JournalsView) × (own : CallerView) × (put : List Message)
-        × (callers.new.items ≡ callers.old.items ++ own ∷ [])
+    ensures rounds { result.memory ≡ false → (board : JournalsView) × (own : CallerView)
+        × (put : List Message) × (callers.new.items ≡ callers.old.items ++ own ∷ [])
         × AreRounds cluster.now.levels cluster.now.limits team.workers team.rounds board own
         (view putter.old.pass).put put }
     ensures began { HaveBegun cluster.now.levels cluster.now.limits []
         callers.old.items callers.new.items }
     ensures channel { sends_on putter.new.sender ≡ sends_on putter.old.sender }
     ensures parts { (view putter.new.pass).parts ≡ (view putter.old.pass).parts }
+    ensures whole { result.whole ≡ true → vec_len callers.new ≡ vec_len callers.old + 1 }
     ensures len { vec_len callers.new ≤ vec_len callers.old + 1 }
     ensures room { vec_capacity callers.new ≡ vec_capacity callers.old }
 {
     let Ok(mut caller) = cluster.caller(alloc) else {
         stop(rt, putter, team.workers);
-        return true;
+        return Ended {
+            memory: true,
+            whole: false,
+        };
     };
     let Ok(mut board) = LiveBoard::new(alloc, cluster.levels(), cluster.limits()) else {
         stop(rt, putter, team.workers);
         callers.push_reserved(caller);
-        return true;
+        return Ended {
+            memory: true,
+            whole: true,
+        };
     };
     let mut memory = false;
     for made in 0..team.rounds {
@@ -215,5 +224,8 @@ pub(crate) fn run_rounds<R: Wait, G: Gate + Drop>(
     }
     stop(rt, putter, team.workers);
     callers.push_reserved(caller);
-    memory
+    Ended {
+        memory,
+        whole: true,
+    }
 }

@@ -1,4 +1,6 @@
-ghost use Rattle.std.specs.Prelude.{◌≡◌, ◌<◌, ◌≤◌, ◌+◌, ◌-◌, ℕ, [], ◌∷◌, ◌++◌, List, false, IfSome, IfNone, vec_len, vec_capacity};
+//! Workers that take jobs from the queue.
+
+ghost use Rattle.std.specs.Prelude.{◌≡◌, ◌<◌, ◌≤◌, ◌+◌, ◌-◌, ℕ, [], ◌∷◌, ◌++◌, List, false, true, IfSome, IfNone, vec_len, vec_capacity};
 ghost use Rattle.crossbeam_channel.specs.Claims.{view};
 ghost use Rattle.crossbeam_channel.specs.Ends.{sends_on, receives_on};
 ghost use Rattle.tq_cluster.specs.declared.workers.Message.{Message};
@@ -137,6 +139,15 @@ fn seat_for_worker<R: Wait, G: Gate + Drop>(
     Some(WorkerSeat { caller, taker })
 }
 
+/// How threads ended that were joined.
+#[derive(Clone, Copy)]
+pub(crate) struct Ended {
+    /// Memory was refused to one of them, or to what they were to have.
+    pub(crate) memory: bool,
+    /// Each of them had a caller.
+    pub(crate) whole: bool,
+}
+
 /// Whether one of the two is so.
 pub(crate) fn either(one: bool, other: bool) -> bool
     ensures { result ≡ false → (one ≡ false) × (other ≡ false) }
@@ -147,7 +158,7 @@ pub(crate) fn either(one: bool, other: bool) -> bool
 /// Starts the workers that are not started yet, pulls the board and puts the jobs for all of them, and joins them. Their
 /// callers are put behind those that are there, the calling thread's first, and then the last worker's. Where a caller,
 /// an end of the queue or a thread is refused, those that were started are stopped and come back, and no jobs are put; a
-/// worker whose thread is refused is stopped with them, in the calling thread. Whether memory was refused.
+/// worker whose thread is refused is stopped with them, in the calling thread.
 pub(crate) fn run_workers<'s, 'e: 's, R: Threads + Wait + Sync, G: Gate + Drop + Sync>(
     scope: &'s Scope<'s, &'e ()>,
     rt: &'e R,
@@ -157,19 +168,22 @@ pub(crate) fn run_workers<'s, 'e: 's, R: Threads + Wait + Sync, G: Gate + Drop +
     started: u32,
     putter: &mut Putter<Message>,
     callers: &mut Vec<Caller>,
-) -> bool
+) -> Ended
     requires started { started ≤ team.workers }
     requires parts { team.workers - started < (view putter.old.pass).parts }
     requires room { vec_len callers.old + (team.workers - started) + 1 ≤ vec_capacity callers.old }
-    ensures ran { result ≡ false → (more : List CallerView) × (taken : List (ℕ × Message))
+    ensures ran { result.memory ≡ false → (more : List CallerView) × (taken : List (ℕ × Message))
         × (callers.new.items ≡ callers.old.items ++ more)
         × ((view putter.new.pass).taken ≡ (view putter.old.pass).taken ++ taken)
         × WorkBackwards cluster.now.levels (team.workers - started) taken more }
     ensures began { HaveBegun cluster.now.levels cluster.now.limits []
         callers.old.items callers.new.items }
     ensures channel { sends_on putter.new.sender ≡ sends_on putter.old.sender }
-    ensures parts { result ≡ false → (view putter.new.pass).parts ≡ (view putter.old.pass).parts }
+    ensures parts { result.memory ≡ false
+        → (view putter.new.pass).parts ≡ (view putter.old.pass).parts }
     ensures some_part { 0 < (view putter.new.pass).parts }
+    ensures whole { result.whole ≡ true
+        → vec_len callers.new ≡ vec_len callers.old + (team.workers - started) + 1 }
     ensures len { vec_len callers.new ≤ vec_len callers.old + (team.workers - started) + 1 }
     ensures room { vec_capacity callers.new ≡ vec_capacity callers.old }
 {
@@ -177,7 +191,10 @@ pub(crate) fn run_workers<'s, 'e: 's, R: Threads + Wait + Sync, G: Gate + Drop +
         return run_rounds(rt, alloc, cluster, team, putter, callers);
     }
     let Some(taken) = seat_for_worker(rt, alloc, cluster, started, putter) else {
-        return true;
+        return Ended {
+            memory: true,
+            whole: false,
+        };
     };
     let WorkerSeat { caller, taker } = taken;
     let child = scope.spawn_with(
@@ -193,7 +210,7 @@ pub(crate) fn run_workers<'s, 'e: 's, R: Threads + Wait + Sync, G: Gate + Drop +
     );
     match child {
         Ok(child) => {
-            let memory = run_workers(
+            let ended = run_workers(
                 scope,
                 rt,
                 alloc,
@@ -210,7 +227,10 @@ pub(crate) fn run_workers<'s, 'e: 's, R: Threads + Wait + Sync, G: Gate + Drop +
             } = child.join(rt);
             putter.rejoin(taker);
             callers.push_reserved(caller);
-            either(memory, mine)
+            Ended {
+                memory: either(ended.memory, mine),
+                whole: ended.whole,
+            }
         }
         Err(refused) => {
             stop(rt, putter, started + 1);
@@ -221,7 +241,10 @@ pub(crate) fn run_workers<'s, 'e: 's, R: Threads + Wait + Sync, G: Gate + Drop +
             } = (refused.value)();
             putter.rejoin(taker);
             callers.push_reserved(caller);
-            true
+            Ended {
+                memory: true,
+                whole: false,
+            }
         }
     }
 }

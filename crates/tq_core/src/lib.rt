@@ -1,6 +1,5 @@
 //! All parts of a system as one service, which journals every ask with its reply.
 //!
-//! Files: `service.rt` the service.
 //! Definitions: `specs/Service` (its tables are those of its journals), `Asked`.
 #![tactic(auto)]
 

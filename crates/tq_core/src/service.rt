@@ -1,3 +1,5 @@
+//! The service: all parts, their tables and their journals.
+
 ghost use Rattle.std.specs.Prelude.{◌≡◌, ◌+◌, ◌-◌, ◌^◌, IfOk, OnOk, OnErr, length};
 ghost use Rattle.std.specs.Option.{option_copied, option_map};
 ghost use Rattle.tq_desk.specs.DeskStep.{desk_reply};
@@ -73,6 +75,22 @@ impl Service {
     {
         let tabled = TabledJournals::new(alloc, levels, limits)?;
         Ok(Service { tabled })
+    }
+
+    /// A service that has taken these journals: each part stands as its journal leaves it. The entries are not copied.
+    pub fn resume(alloc: Global, journals: Journals) -> Result<Service, Memory>
+        requires { spec.IsOfRun journals }
+        ensures { IfOk result (λ service. service ≡ journals) }
+    {
+        let tabled = TabledJournals::of(alloc, journals)?;
+        Ok(Service { tabled })
+    }
+
+    /// The limits of the system.
+    pub fn limits(&self) -> Limits
+        ensures { result ≡ self.now.limits }
+    {
+        self.tabled.limits
     }
 
     /// The view, as its journal leaves it.

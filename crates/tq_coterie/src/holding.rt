@@ -1,3 +1,5 @@
+//! Whether a set of servers holds a quorum.
+
 ghost use Rattle.std.specs.Prelude.{◌≡◌, not};
 ghost use Rattle.tq_coterie.specs.Coterie.{complement_of, has, holds_member, members_under};
 ghost use Rattle.tq_coterie.specs.Coterie as spec;

@@ -6,8 +6,6 @@
 //!
 //! Nothing here lists the members: a tree of six levels has over four billion.
 //!
-//! Files: `member.rt` quorums and blockers, one type by its role; `membership.rt`, `marks.rt` the test;
-//! `holding.rt`, `overlap.rt` whether a set holds a quorum; `meeting.rt` where two meet.
 //! Definitions: `specs/Coterie`; `Parts` and `Marks` are the code's own words.
 #![tactic(auto)]
 

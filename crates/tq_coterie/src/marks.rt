@@ -1,3 +1,5 @@
+//! A set of servers as bits, for the test.
+
 ghost use Rattle.std.specs.Prelude.{◌≡◌, ◌+◌, ◌*◌, ◌^◌, ◌<◌, ◌==◌, ◌||◌, ℕ, All, false, slice_index};
 ghost use Rattle.std.specs.Bool.{OnTrue, OnFalse};
 ghost use Rattle.tq_shape.specs.Depth.{height_of};

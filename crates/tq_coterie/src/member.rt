@@ -1,3 +1,5 @@
+//! Quorums and blockers: one type by its role.
+
 ghost use Rattle.std.specs.Prelude.{◌≡◌, IfOk, OnSome, All};
 ghost use Rattle.tq_shape.specs.Tree.{IsServer};
 ghost use Rattle.tq_coterie.specs.Coterie.{AnswersMember, IsMemberList};

@@ -1,3 +1,5 @@
+//! Whether numbers are the servers of a quorum or of a blocker.
+
 ghost use Rattle.std.specs.Prelude.{◌<◌, ◌^◌, ◌≡◌, ◌↔◌, IsTrue, Contains, All};
 ghost use Rattle.tq_shape.specs.Tree.{IsServer};
 ghost use Rattle.tq_coterie.specs.Coterie.{coterie};

@@ -1,3 +1,5 @@
+//! The desk as a part that answers asks.
+
 use crate::{Desk, DeskAsk, DeskChange, DeskReply};
 use std::alloc::Global;
 use tq_part::{Answers, Plan};

@@ -1,3 +1,5 @@
+//! What the desk is asked and what it replies.
+
 use tq_asks::Verdict;
 use tq_evidence::{Op, Rule, Vote};
 use tq_shape::SharedSeq;

@@ -1,3 +1,5 @@
+//! What an ask changes in a desk.
+
 use tq_asks::CitedVote;
 use tq_shape::{Seq, SharedSeq};
 use tq_store::FileName;

@@ -1,3 +1,5 @@
+//! The files that commits wrote.
+
 ghost use Rattle.std.specs.Prelude.{◌≡◌, ◌+◌, ◌<◌, ◌≤◌, IfOk, OnOk, is_some, length};
 ghost use Rattle.std.specs.FinMap as fin;
 ghost use Rattle.tq_desk.specs.DeskStep as spec;

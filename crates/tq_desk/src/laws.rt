@@ -1,3 +1,5 @@
+//! Functions without a body: their contracts are the laws of a desk's journal.
+
 ghost use Rattle.tq_desk.specs.DeskJournal.{DeskBounds};
 ghost use Rattle.tq_desk.specs.DecisionLog.{AreWritten, EndsAreTold, EndsStay};
 ghost use Rattle.tq_desk.specs.DecisionLog.{KeepsJournals, LegalIsLog, LogIsLegal};

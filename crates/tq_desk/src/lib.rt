@@ -1,7 +1,5 @@
 //! The desk: it begins transactions and keeps how each ended. And what its journals say.
 //!
-//! Files: `ask.rt` asks and replies; `desk.rt` the desk by plan and `change.rt`; `finals.rt`, `files.rt` the tables of ends
-//! and of files written; `laws.rt` functions without a body, whose contracts are the laws of a journal.
 //! Definitions: `specs/DeskStep` (the step), `DeskJournal` and `DecisionLog` (the decision log), `Laws`; `proofs/DeskFinal`
 //! that an end stays, `Shown` what good evidence shows.
 #![tactic(auto)]

@@ -1,3 +1,5 @@
+//! How a run ends before its source does.
+
 use std::alloc::AllocError;
 use thiserror::Error;
 

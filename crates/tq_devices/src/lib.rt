@@ -1,7 +1,5 @@
 //! What bytes come from and go to: in memory, or over readers and writers.
 //!
-//! Files: `device.rt` the traits `Source` and `Sink`; `memory.rt`, `standard.rt` devices in memory and over `std::io`;
-//! `writing.rt` all bytes written; `fault.rt` how a run ends.
 //! Definitions: `specs/Devices`, `Faults`.
 #![tactic(auto)]
 

@@ -1,3 +1,5 @@
+//! Sources and sinks in memory.
+
 ghost use Rattle.std.specs.Prelude.{◌≡◌, ◌≤◌, ◌<◌};
 
 use crate::device::{Failed, Sink, Source};

@@ -1,3 +1,5 @@
+//! Sources and sinks over `std::io`.
+
 ghost use Rattle.std.specs.Prelude.{◌≡◌, ◌<◌, ◌≤◌, IfSome, IsNone, length};
 ghost use Rattle.std.specs.Io.KnownBytes.{IsAtEnd, Keeps};
 ghost use Rattle.tq_devices.specs.Devices.{AppendsFront, ConsumesFront};

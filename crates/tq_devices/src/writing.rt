@@ -1,3 +1,5 @@
+//! All bytes written to a sink.
+
 ghost use Rattle.std.specs.Prelude.{◌^◌, ◌-◌, ◌<◌};
 ghost use Rattle.tq_devices.specs.Faults.{IsWritten};
 

@@ -1,6 +1,4 @@
 //! Digits behind a text: numbers in decimal, bytes in hexadecimal.
-//!
-//! Files: `decimal.rt` numbers; `hexadecimal.rt` bytes.
 #![tactic(auto)]
 
 mod decimal;

@@ -1,3 +1,5 @@
+//! Whether asks of the desk are the same.
+
 ghost use Rattle.std.specs.Prelude.{◌≡◌};
 ghost use Rattle.std.specs.Cmp.Lexicographic.{pointwise};
 ghost use Rattle.tq_equality.specs.Same as spec;

@@ -1,3 +1,5 @@
+//! The trait `Alike`: asks and replies that can be told apart.
+
 ghost use Rattle.std.specs.Prelude.{◌≡◌, ◌↔◌, IsTrue};
 ghost use Rattle.tq_equality.specs.Begins.{Begins};
 

@@ -1,6 +1,5 @@
 //! Whether two asks, two replies or two entries are the same.
 //!
-//! Files: `kinds.rt` the trait `Alike`; `node.rt`, `desk.rt`, `view.rt` the tests of asks; `same.rt` those of replies.
 //! Definitions: `specs/Same`, `Begins`; `proofs/Equal`, `Tests` that they tell equality.
 #![tactic(auto)]
 

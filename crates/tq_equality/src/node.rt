@@ -1,3 +1,5 @@
+//! Whether asks of servers are the same.
+
 ghost use Rattle.std.specs.Prelude.{◌≡◌};
 ghost use Rattle.tq_asks.specs.declared.ask.WorkAsk.TheVariants as asks;
 ghost use Rattle.tq_equality.specs.Same as spec;

@@ -1,3 +1,5 @@
+//! The trait `Same`, and whether replies are the same.
+
 ghost use Rattle.std.specs.Prelude.{◌≡◌, ◌↔◌, IsTrue};
 
 use crate::{Alike, OfDesk, OfServer, OfView};

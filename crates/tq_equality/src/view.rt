@@ -1,3 +1,5 @@
+//! Whether asks of the view are the same.
+
 use crate::kinds::Alike;
 use tq_live::{ViewAsk, ViewReply};
 

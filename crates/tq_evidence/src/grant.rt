@@ -1,3 +1,5 @@
+//! A lock as a server granted it.
+
 use tq_locks::Mode;
 use tq_shape::ExactClone;
 use tq_store::Content;

@@ -1,7 +1,5 @@
 //! The evidence that a commit rests on: operations with their grants, and votes; and the rules that it has to keep.
 //!
-//! Files: `grant.rt`, `op.rt`, `vote.rt` what a commit cites; `evidence.rt` the rules in order, one rule a file below it;
-//! `grants.rt` a list of grants; `shareable.rt` a list that is owned until it is shared.
 //! Definitions: `specs/Evidence`, `Rules`; `Held` and `InOrder` are the code's own words.
 #![tactic(auto)]
 

@@ -1,3 +1,5 @@
+//! A read or a write with its grants.
+
 ghost use Rattle.std.specs.Prelude.{◌≡◌};
 ghost use Rattle.tq_evidence.specs.Evidence as spec;
 

@@ -1,3 +1,5 @@
+//! The rules of evidence, in the order in which they are tested.
+
 ghost use Rattle.std.specs.Prelude.{◌≡◌};
 ghost use Rattle.tq_evidence.specs.Rules as spec;
 

@@ -1,3 +1,5 @@
+//! A list that is owned until it is shared.
+
 ghost use Rattle.std.specs.Prelude.{◌≡◌};
 
 use std::alloc::AllocError;

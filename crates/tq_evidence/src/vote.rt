@@ -1,3 +1,5 @@
+//! A vote as a server gave it.
+
 ghost use Rattle.std.specs.Prelude.{◌≡◌};
 ghost use Rattle.tq_evidence.specs.Evidence as spec;
 

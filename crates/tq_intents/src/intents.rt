@@ -1,3 +1,5 @@
+//! The stable records of a server, with an index of its open votes.
+
 ghost use Rattle.std.specs.Prelude.{◌≡◌, ◌+◌, ◌<◌, ◌≤◌, ◌++◌, [], ◌∷◌, OnOk, OnErr, IfOk};
 ghost use Rattle.std.specs.Prelude.{map, length, take, IsSome};
 ghost use Rattle.std.specs.FinMap as fin;

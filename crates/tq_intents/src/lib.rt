@@ -1,7 +1,5 @@
 //! What a server keeps through a crash: its stable records, and what they stand for.
 //!
-//! Files: `intents.rt` the list with its index; `record.rt` the records; `shared_write.rt`, `shared_lock.rt`,
-//! `vote_locks.rt`, `newer_write.rt` writes and locks that records share.
 //! Definitions: `specs/Kept` (what a list of records keeps), `Sharing`; `Index` is the code's own word.
 #![tactic(auto)]
 

@@ -1,3 +1,5 @@
+//! A write whose copy is to be installed.
+
 ghost use Rattle.std.specs.Prelude.{◌≡◌, IfOk};
 
 use crate::SharedWrite;

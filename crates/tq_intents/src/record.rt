@@ -1,3 +1,5 @@
+//! The stable records.
+
 use crate::{SharedLock, SharedWrite, VoteLocks};
 use tq_locks::Mode;
 use tq_shape::{ExactClone, SharedSeq};

@@ -1,3 +1,5 @@
+//! A lock that stands in a list that others share.
+
 ghost use Rattle.std.specs.Prelude.{◌≡◌, ◌<◌, length};
 ghost use Rattle.tq_intents.specs.Sharing.{lock_at};
 

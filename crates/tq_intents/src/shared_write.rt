@@ -1,3 +1,5 @@
+//! A write that stands in a list that others share.
+
 ghost use Rattle.std.specs.Prelude.{◌≡◌, ◌<◌, IfOk, length};
 ghost use Rattle.tq_intents.specs.Sharing.{write_at, told_write, IsRefresh};
 

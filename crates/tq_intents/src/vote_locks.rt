@@ -1,3 +1,5 @@
+//! The locks that a vote keeps.
+
 ghost use Rattle.std.specs.Prelude.{◌≡◌, ◌<◌, length, get_or, IfOk};
 ghost use Rattle.tq_intents.specs.Sharing.{kept_each};
 

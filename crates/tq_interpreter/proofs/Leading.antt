@@ -1,8 +1,7 @@
 -- The asks of a line, each told what the service answers, are its run.
-use Rattle.std.proofs.Common.{◌≡◌, ◌∙◌, ◌-◌, ◌<◌, cond, nat_lt, arith, ℕ, true, List, [], ◌∷◌, ◌++◌, Some, None, refl, sym, ap, subst}
+use Rattle.std.proofs.Common.{◌≡◌, ◌∙◌, ◌-◌, ◌<◌, cond, nat_lt, arith, ℕ, true, List, [], ◌∷◌, ◌++◌, Some, None, append_assoc, refl, sym, ap, subst}
 use Rattle.tq_tables.specs.Journals.{JournalsView}
 use Rattle.tq_world.specs.declared.answer.Step.TheVariants as steps
-use Rattle.tq_world.specs.World.{empty_world}
 use Rattle.tq_world.specs.Steps.{world_after}
 use Rattle.tq_txn.specs.declared.asker.Exchange.{Exchange}
 use Rattle.tq_txn.specs.declared.asker.Exchange.TheVariants as exchanges
@@ -10,7 +9,9 @@ use Rattle.tq_txn.specs.Dialogue.{Told, Dialogue, Ends, AsksNode, AsksDesk, Asks
 use Rattle.tq_interpreter.specs.Asking.{Ran, run_line, exchange_first, node_told, desk_told, view_told}
 use Rattle.std.specs.Prelude.{slice_get}
 use Rattle.tq_world.specs.World.{item_at}
-use Rattle.tq_interpreter.specs.Recorded.{full_limits, RecorderView, Replays, IsReplayed, Matches, step_of}
+use Rattle.tq_interpreter.specs.Recorded.{RecorderView, Replays, IsReplayed, Matches, step_of, mark_of, numbers_of}
+use base.Stored.{Gv, gnil, gnum, gcons}
+use Rattle.tq_tables.specs.contracts.journals.Journals as journals_type
 
 pub item_of : {E : Type 0} (items : List E) (number place : ℕ) (x : E) → 0 < number → number - 1 ≡ place → slice_get items place ≡ Some x → item_at items number ≡ Some x
 item_of items number place x less same is =
@@ -51,12 +52,46 @@ makes_ran (AsksView ask next) old new told end made replays =
     let after = world_after old (steps.View ask) in
     asked_first (exchanges.View ask) (λ t. run_line after (next t)) made.0 (view_told old ask) made.1 told end new replayed.0 made.2 (makes_ran (next made.0) after new made.1 end made.3 replayed.1)
 
+first_of : (n m : ℕ) (more rest : List ℕ) → n ∷ more ≡ m ∷ rest → n ≡ m
+first_of n m more rest is = cc
+
+behind : (n m : ℕ) (more rest : List ℕ) → n ∷ more ≡ m ∷ rest → more ≡ rest
+behind n m more rest is = cc
+
+apart : (n m : ℕ) (more rest : List ℕ) → n ∷ more ≡ m ∷ rest → (n ≡ m → ⊥) → ⊥
+apart n m more rest is other = other (first_of n m more rest is)
+
+-- a list of numbers has one tree, and what stands behind it
+one_tree : (a b : Gv) (more rest : List ℕ) → numbers_of a ++ more ≡ numbers_of b ++ rest → (a ≡ b) × (more ≡ rest)
+one_tree gnil gnil more rest is = (refl, behind 0 0 more rest is)
+one_tree gnil (gnum m) more rest is = absurd (apart 0 1 more (m ∷ rest) is (λ same. omega (arith, same)))
+one_tree gnil (gcons c d) more rest is = absurd (apart 0 2 more ((numbers_of c ++ numbers_of d) ++ rest) is (λ same. omega (arith, same)))
+one_tree (gnum n) gnil more rest is = absurd (apart 1 0 (n ∷ more) rest is (λ same. omega (arith, same)))
+one_tree (gnum n) (gnum m) more rest is =
+    let tails = behind 1 1 (n ∷ more) (m ∷ rest) is in
+    (ap gnum (first_of n m more rest tails), behind n m more rest tails)
+one_tree (gnum n) (gcons c d) more rest is = absurd (apart 1 2 (n ∷ more) ((numbers_of c ++ numbers_of d) ++ rest) is (λ same. omega (arith, same)))
+one_tree (gcons a b) gnil more rest is = absurd (apart 2 0 ((numbers_of a ++ numbers_of b) ++ more) rest is (λ same. omega (arith, same)))
+one_tree (gcons a b) (gnum m) more rest is = absurd (apart 2 1 ((numbers_of a ++ numbers_of b) ++ more) (m ∷ rest) is (λ same. omega (arith, same)))
+one_tree (gcons a b) (gcons c d) more rest is =
+    let tails = behind 2 2 ((numbers_of a ++ numbers_of b) ++ more) ((numbers_of c ++ numbers_of d) ++ rest) is in
+    let first = one_tree a c (numbers_of b ++ more) (numbers_of d ++ rest) (sym (append_assoc (numbers_of a) (numbers_of b) more) ∙ tails ∙ append_assoc (numbers_of c) (numbers_of d) rest) in
+    let second = one_tree b d more rest first.1 in
+    (λ i. gcons (first.0 i) (second.0 i), second.1)
+
+-- what is told behind a mark tells where the asks began
+split_mark : (one two : JournalsView) (more rest : List Exchange) → mark_of one ∷ more ≡ mark_of two ∷ rest → (one ≡ two) × (more ≡ rest)
+split_mark one two more rest is =
+    let numbers : numbers_of (journals_type.the_row.coded.code one) ≡ numbers_of (journals_type.the_row.coded.code two) = cc in
+    (journals_type.the_row.coded.inj one two (one_tree _ _ [] [] (ap (λ l. l ++ []) numbers)).0, cc)
+
 -- what the one recorder was told more than the other leads from the journals of that to its own
 pub replays_on : (old new : RecorderView) (more : List Exchange) → IsReplayed old → IsReplayed new → new.journals.levels ≡ old.journals.levels → new.told ≡ old.told ++ more → Replays old.journals more new.journals
 replays_on old new more replayed_old replayed_new levels grown =
-    let start = empty_world old.journals.levels full_limits in
-    replays_more old.told more start old.journals new.journals replayed_old
-    (subst (λ (t : List Exchange). Replays start t new.journals) grown (subst (λ (l : ℕ). Replays (empty_world l full_limits) new.told new.journals) levels replayed_new))
+    let start = replayed_old.start in
+    let all = split_mark replayed_new.start start replayed_new.since (replayed_old.since ++ more) (sym replayed_new.told_is ∙ grown ∙ ap (λ t. t ++ more) replayed_old.told_is) in
+    replays_more replayed_old.since more start old.journals new.journals replayed_old.replays
+    (subst (λ (t : List Exchange). Replays start t new.journals) all.1 (subst (λ (s : JournalsView). Replays s replayed_new.since new.journals) all.0 replayed_new.replays))
 
 -- a line whose asks lead from what the one recorder was told to what the other was told is run in the world of the first
 pub follows_ran : {A : Type 0} (line : Dialogue A) (old new : RecorderView) (end : A) → IsReplayed old → IsReplayed new → new.journals.levels ≡ old.journals.levels → Follows line old.told new.told (Some end)

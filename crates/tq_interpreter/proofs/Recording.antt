@@ -16,7 +16,7 @@ use Rattle.tq_world.specs.declared.answer.Step.{Step}
 use Rattle.tq_world.specs.declared.answer.Step.TheVariants as steps
 use Rattle.tq_world.specs.declared.citation.Citation.{Citation}
 use Rattle.tq_world.specs.Founded.{unfounded_in_node_ask, unfounded_in_desk_ask}
-use Rattle.tq_world.specs.World.{item_at, empty_world}
+use Rattle.tq_world.specs.World.{item_at}
 use Rattle.tq_world.specs.Steps.{IsTold, told_at, refuse_unfounded, refuse_entry, refuse_at, refusal, answer, world_with_step, server_journal, node_entry, desk_entry, view_entry, world_after}
 use Rattle.tq_shape.specs.Steps.{state_at}
 use Rattle.tq_shape.specs.declared.part.Part.{Part}
@@ -31,7 +31,7 @@ use Rattle.tq_part.specs.declared.fault.AskFault.TheVariants as ask_faults
 use Rattle.tq_txn.specs.Dialogue.{Told, unless_memory}
 use Rattle.tq_core.specs.Asked.{refusal_of, told_by as told_step}
 use Rattle.tq_interpreter.specs.Asking.{untaken_at, step_refusal, told_by}
-use Rattle.tq_interpreter.specs.Recorded.{full_limits, told_exchanges, step_of, Matches, Replays, IsReplayed}
+use Rattle.tq_interpreter.specs.Recorded.{told_exchanges, step_of, Matches, Replays, IsReplayed}
 use Rattle.tq_interpreter.proofs.Leading.{replays_push}
 
 -- ---- the tree stays
@@ -124,10 +124,16 @@ pub record IsAsked (old new : JournalsView) (told : List Exchange) : Type 0 wher
 module _ (old new : JournalsView) (told : List Exchange) (kept : IsReplayed (record { journals = old; told = told })) where
   asked : (h : Exchange) → new ≡ world_after old (step_of h) → Matches old h → IsAsked old new (told ++ h ∷ [])
   asked h is matches =
-      let start = empty_world old.levels full_limits in
-      let levels : new.levels ≡ old.levels = ap (λ (w : JournalsView). w.levels) is ∙ levels_after old (step_of h) in
-      let all : Replays start (told ++ h ∷ []) (world_after old (step_of h)) = replays_push told h start old kept matches in
-      record { kept = subst (λ (l : ℕ). Replays (empty_world l full_limits) (told ++ h ∷ []) new) (sym levels) (subst (λ (w : JournalsView). Replays start (told ++ h ∷ []) w) (sym is) all); tree = levels }
+      let all : Replays kept.start (kept.since ++ h ∷ []) (world_after old (step_of h)) = replays_push kept.since h kept.start old kept.replays matches in
+      record {
+        kept = record {
+          start = kept.start;
+          since = kept.since ++ h ∷ [];
+          told_is = ap (λ t. t ++ h ∷ []) kept.told_is;
+          replays = subst (λ (w : JournalsView). Replays kept.start (kept.since ++ h ∷ []) w) (sym is) all;
+        };
+        tree = ap (λ (w : JournalsView). w.levels) is ∙ levels_after old (step_of h);
+      }
 
   -- an ask that was not taken
   unasked : (step : Step) (fault : AskFault) (h : Exchange) → step_of h ≡ step → (step_refusal old step ≡ Some fault → Matches old h) → IsTold old step (Err (refusal_of fault)) → new ≡ old

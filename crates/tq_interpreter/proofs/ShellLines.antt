@@ -1,5 +1,5 @@
 -- A line of the shell whose asks are the dialogue's is answered so.
-use Rattle.std.proofs.Common.{◌≡◌, ◌∙◌, ◌+◌, ◌-◌, ◌<◌, length, get_or, arith, ℕ, false, List, [], ◌++◌, Result, Err, refl, sym, ap, inl, inr}
+use Rattle.std.proofs.Common.{◌≡◌, ◌∙◌, ◌+◌, ◌-◌, ◌<◌, length, get_or, arith, ℕ, false, List, [], ◌++◌, Result, Ok, Err, refl, sym, ap, subst, inl, inr}
 use Rattle.std.specs.Prelude.{IfOk}
 use Rattle.tq_part.specs.declared.fault.AskFault.{AskFault}
 use Rattle.tq_part.specs.declared.fault.AskFault.TheVariants as ask_faults
@@ -20,12 +20,18 @@ use Rattle.std.specs.Prelude.{slice_set}
 use Rattle.std.proofs.lemmas.Option.{slice_get_read}
 use Rattle.tq_text.specs.Print.{printed_line}
 use Rattle.tq_interpreter.specs.Recorded.{RecorderView, IsReplayed}
-use Rattle.tq_interpreter.specs.Asked.{LineAnswer, begin_end, of_txn}
+use Rattle.tq_interpreter.specs.Asked.{LineAnswer, begin_end, begin_reply, of_txn}
 use Rattle.tq_interpreter.proofs.Leading.{item_of, ran_as, replays_on, then_ran}
 use Rattle.tq_interpreter.proofs.Answered.{got_to, line_ran}
 use Rattle.tq_interpreter.specs.Operators.{refresh_asked}
 use Rattle.tq_interpreter.specs.Asked.{refresh_line, text_answer}
-use Rattle.tq_interpreter.specs.Known.{Known}
+use Rattle.tq_interpreter.specs.Known.{AreOfTree, Known, fresh, known_of}
+use Rattle.std.specs.Global.{Vec}
+use Rattle.std.proofs.lemmas.List.Elements.{All-push}
+use Rattle.tq_shape.specs.Limits.{LimitsView}
+use Rattle.tq_desk.specs.declared.ask.DeskReply.{DeskReply}
+use Rattle.tq_desk.specs.declared.ask.DeskReply.TheVariants as desk_replies
+use Rattle.tq_txn.specs.States.{levels_of}
 
 -- a line of the shell that was answered so
 pub answered_by : {A S : Type 0} (line : Dialogue (LineEnd A S)) (f : LineEnd A S → LineAnswer) (old new : RecorderView) (result : Result A LineFault) (after : S)
@@ -37,20 +43,20 @@ answered_by line f old new result after replayed_old replayed_new levels follows
     (ap (λ (r : Ran LineAnswer). r.end.text) (sym ran.1), ap (λ (r : Ran LineAnswer). (answer_of_run r).after) (sym ran.1))
 
 -- a line of a transaction that is kept, answered so
-pub txn_answered : (w : World) (number place : ℕ) (line : TxnLine) (kept new : TxnSlot) (after : JournalsView) (before text : List ℕ) → number ≡ place + 1 → place < length w.known.txns → kept ≡ get_or w.known.txns place kept
+pub txn_answered : (w : World) (number place : ℕ) (line : TxnLine) (kept new : TxnSlot) (after : JournalsView) (before text : List ℕ) → number ≡ w.known.others + place + 1 → place < length w.known.txns → kept ≡ get_or w.known.txns place kept
     → IsAnswered (line_asked w.known.levels line number kept) (got_to w.journals before) (got_to after text) new
     → (text ≡ before ++ (answer w (shell_lines.Txn number line)).text)
-    × (record { journals = after; known = record { levels = w.known.levels; limits = w.known.limits; txns = slice_set w.known.txns place new } } ≡ (answer w (shell_lines.Txn number line)).after)
+    × (record { journals = after; known = record { levels = w.known.levels; limits = w.known.limits; others = w.known.others; txns = slice_set w.known.txns place new } } ≡ (answer w (shell_lines.Txn number line)).after)
 txn_answered w number place line kept new after before text is less here said =
-    let minus : number - 1 ≡ place = omega (arith, is) in
-    let some : 0 < number = omega (arith, is) in
-    let item = item_of w.known.txns number place kept some minus (slice_get_read w.known.txns (length w.known.txns) place kept refl less here) in
+    let minus : number - w.known.others - 1 ≡ place = omega (arith, is) in
+    let some : 0 < number - w.known.others = omega (arith, is) in
+    let item = item_of w.known.txns (number - w.known.others) place kept some minus (slice_get_read w.known.txns (length w.known.txns) place kept refl less here) in
     let tree = line_asked w.known.levels line number kept in
     let f : TxnAnswer → LineAnswer = λ end. record { text = printed_line end.text; known = with_kept w.known number end.kept } in
     let same : answer w (shell_lines.Txn number line) ≡ answer_of_run (ran_as f (run_line w.journals tree)) =
     ap (λ o. answer_of_run (run_line w.journals (of_txn w.known number o (line_asked w.known.levels line)))) item ∙ ap answer_of_run (then_ran tree f w.journals) in
-    let end : record { journals = after; known = record { levels = w.known.levels; limits = w.known.limits; txns = slice_set w.known.txns place new } } ≡ (answer_of_run (ran_as f (run_line w.journals tree))).after =
-    λ i. record { journals = said.journals i; known = record { levels = w.known.levels; limits = w.known.limits; txns = slice_set w.known.txns (sym minus i) (said.kept i) } } in
+    let end : record { journals = after; known = record { levels = w.known.levels; limits = w.known.limits; others = w.known.others; txns = slice_set w.known.txns place new } } ≡ (answer_of_run (ran_as f (run_line w.journals tree))).after =
+    λ i. record { journals = said.journals i; known = record { levels = w.known.levels; limits = w.known.limits; others = w.known.others; txns = slice_set w.known.txns (sym minus i) (said.kept i) } } in
     (said.text ∙ ap (λ (a : Answer). before ++ a.text) (sym same), end ∙ ap (λ (a : Answer). a.after) (sym same))
 
 -- the line of the shell says that, and what is known stays
@@ -59,6 +65,20 @@ pub refresh_answered : (journals : JournalsView) (known : Known) → ((run_line 
 refresh_answered journals known =
     let ran = then_ran (refresh_asked journals) (text_answer known) journals in
     (ap (λ r. (answer_of_run r).text) (sym ran), ap (λ r. (answer_of_run r).after) (sym ran))
+
+-- a transaction that was begun is of the tree, as those before it are
+pub begun_of_tree : (levels : ℕ) (limits : LimitsView) (others : ℕ) (old new : Vec TxnSlot) (result : Result DeskTold LineFault) → (begin_end (known_of levels limits others old) result).known ≡ known_of levels limits others new
+    → AreOfTree levels old.items → AreOfTree levels new.items
+begun_of_tree levels limits others old new result known each = subst (λ (k : Known). AreOfTree levels k.txns) known (by result)
+  where
+    by_reply : (reply : DeskReply) → AreOfTree levels (begin_reply (known_of levels limits others old) reply).known.txns
+    by_reply (desk_replies.Txn number) = All-push (λ (k : TxnSlot). levels_of k.txn ≡ levels) old.items (fresh levels limits number) each refl
+    by_reply (desk_replies.Refused refusal) = each
+    by_reply other = each
+
+    by : (result : Result DeskTold LineFault) → AreOfTree levels (begin_end (known_of levels limits others old) result).known.txns
+    by (Ok told) = by_reply told.reply
+    by (Err fault) = each
 
 -- the world stands before the line that begins a transaction, or behind it
 pub begun_whole : (old new : RecorderView) (before after : Known) (result : Result DeskTold AskFault) → IsReplayed old → IsReplayed new → new.journals.levels ≡ old.journals.levels → new.told ≡ old.told ++ desk_exchange Begin result → IfOk result (λ told. told.ask ≡ Begin)

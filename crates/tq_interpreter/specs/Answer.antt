@@ -1,7 +1,7 @@
 -- What the shell stands on, and what it answers to a line.
 use Rattle.std.specs.Prelude.{◌≡◌, ◌⊎◌, ℕ, List}
 use Rattle.tq_tables.specs.Journals.{JournalsView}
-use Rattle.tq_world.specs.World.{empty_world}
+use Rattle.tq_world.specs.World.{desk_at, empty_world}
 use Rattle.tq_txn.specs.declared.asker.Exchange.{Exchange}
 use Rattle.tq_txn.specs.Dialogue.{Dialogue}
 use Rattle.tq_interpreter.specs.Asking.{Ran, run_line}
@@ -15,9 +15,13 @@ pub record World : Type 0 where
   pub journals : JournalsView
   pub known : Known
 
+-- the service has these journals, and no line was read yet: what transactions the desk began are others'
+abbrev pub over : JournalsView → World
+over journals = record { journals = journals; known = nothing_known journals.levels journals.limits (desk_at journals.levels journals.limits journals.desk).begun }
+
 -- nothing was asked yet
 abbrev pub opening : ℕ → World
-opening levels = record { journals = empty_world levels full_limits; known = nothing_known levels full_limits }
+opening levels = over (empty_world levels full_limits)
 
 -- what a line gives: the text that is written, the asks with what they were told, and the world after it
 pub record Answer : Type 0 where

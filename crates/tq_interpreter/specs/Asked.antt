@@ -9,7 +9,6 @@ use Rattle.tq_live.specs.View.{is_server, is_cost}
 use Rattle.tq_live.specs.declared.purpose.Purpose.{Purpose}
 use Rattle.tq_live.specs.declared.view.ViewAsk.TheVariants as view_asks
 use Rattle.tq_tables.specs.Journals.{JournalsView}
-use Rattle.tq_world.specs.World.{item_at}
 use Rattle.tq_txn.specs.declared.fault.LineFault.{LineFault}
 use Rattle.tq_txn.specs.declared.asker.ViewTold.{ViewTold}
 use Rattle.tq_txn_states.specs.declared.told.DeskTold.{DeskTold}
@@ -20,7 +19,7 @@ use Rattle.tq_interpreter.specs.declared.txn_slot.TxnSlot.{TxnSlot}
 use Rattle.tq_syntax.specs.declared.line.Line.{Line}
 use Rattle.tq_syntax.specs.declared.line.Line.TheVariants as is
 use Rattle.tq_interpreter.specs.Operators.{refresh_asked, board_of}
-use Rattle.tq_interpreter.specs.Known.{Known, with_begun, with_kept}
+use Rattle.tq_interpreter.specs.Known.{Known, known_at, with_begun, with_kept}
 use Rattle.tq_text.specs.Print.{printed_line, choice_text, mark_word}
 use Rattle.tq_text.specs.Refusals.{fault_text, desk_refusal_text}
 use Rattle.tq_interpreter.specs.TxnAsked.{TxnAnswer, line_asked, result_text}
@@ -35,14 +34,14 @@ text_line known text = Ends (record { text = printed_line text; known = known })
 
 -- ---- the checks before
 
--- the transaction is one that was begun
+-- the transaction is one that was begun here
 abbrev pub of_txn : Known → ℕ → Option TxnSlot → (ℕ → TxnSlot → asks.Dialogue TxnAnswer) → asks.Dialogue LineAnswer
 of_txn known number None next = text_line known (codes "no such transaction " ++ decimal number)
 of_txn known number (Some kept) next =
     then_line (next number kept) (λ end. Ends (record { text = printed_line end.text; known = with_kept known number end.kept }))
 
 abbrev pub txn_asked : Known → ℕ → (ℕ → TxnSlot → asks.Dialogue TxnAnswer) → asks.Dialogue LineAnswer
-txn_asked known number next = of_txn known number (item_at known.txns number) next
+txn_asked known number next = of_txn known number (known_at known number) next
 
 -- ---- the lines of the parts
 

@@ -8,22 +8,29 @@ use Rattle.tq_txn.specs.declared.txn.Txn.{Txn}
 use Rattle.tq_txn.specs.declared.txn.Txn.TheVariants as states
 use Rattle.tq_txn.specs.States.{levels_of}
 use Rattle.tq_txn_states.specs.Open as first
+use Rattle.tq_world.specs.World.{item_at}
 use Rattle.tq_interpreter.specs.declared.txn_slot.TxnSlot.{TxnSlot}
 use Rattle.tq_interpreter.specs.declared.txn_slot.Ending.{Ending}
 
--- the levels of the tree and the limits, and the transactions in the order of their begins: the first is 1
+-- the levels of the tree and the limits, how many transactions others had begun before, and those begun since, in the order of
+-- their begins: their numbers go on behind the others'
 pub record Known : Type 0 where
   pub levels : ℕ
   pub limits : LimitsView
+  pub others : ℕ
   pub txns : List TxnSlot
 
--- nothing was begun
-abbrev pub nothing_known : ℕ → LimitsView → Known
-nothing_known levels limits = record { levels = levels; limits = limits; txns = [] }
+-- nothing was begun but by others
+abbrev pub nothing_known : ℕ → LimitsView → ℕ → Known
+nothing_known levels limits others = record { levels = levels; limits = limits; others = others; txns = [] }
 
 -- the same, the transactions as a program keeps them
-abbrev pub known_of : ℕ → LimitsView → Vec TxnSlot → Known
-known_of levels limits txns = record { levels = levels; limits = limits; txns = txns.items }
+abbrev pub known_of : ℕ → LimitsView → ℕ → Vec TxnSlot → Known
+known_of levels limits others txns = record { levels = levels; limits = limits; others = others; txns = txns.items }
+
+-- what is known of the transaction of that number: nothing where it is none of those begun since
+abbrev pub known_at : Known → ℕ → Option TxnSlot
+known_at known number = item_at known.txns (number - known.others)
 
 -- every transaction is of a tree of that many levels
 abbrev pub AreOfTree : ℕ → List TxnSlot → Type 0
@@ -34,11 +41,12 @@ abbrev pub fresh : ℕ → LimitsView → ℕ → TxnSlot
 fresh levels limits number = record { txn = states.Open (first.opening_txn levels limits number); told = None }
 
 abbrev pub with_begun : Known → ℕ → Known
-with_begun known number = record { levels = known.levels; limits = known.limits; txns = known.txns ++ fresh known.levels known.limits number ∷ [] }
+with_begun known number = record { levels = known.levels; limits = known.limits; others = known.others; txns = known.txns ++ fresh known.levels known.limits number ∷ [] }
 
 -- with another state of the transaction of that number
 abbrev pub with_kept : Known → ℕ → TxnSlot → Known
-with_kept known number kept = record { levels = known.levels; limits = known.limits; txns = slice_set known.txns (number - 1) kept }
+with_kept known number kept =
+    record { levels = known.levels; limits = known.limits; others = known.others; txns = slice_set known.txns (number - known.others - 1) kept }
 
 abbrev pub in_state : TxnSlot → Txn → TxnSlot
 in_state kept txn = record { txn = txn; told = kept.told }

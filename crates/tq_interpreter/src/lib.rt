@@ -1,9 +1,6 @@
 //! A session of the shell of a tree of servers, line by line: the service that lines are asked of, what each line asks,
 //! the lines of transactions and of operators, and what is answered.
 //!
-//! Files: `shell.rt` any line; `answering.rt` a line of a transaction: `operations.rt`, `server_lines.rt`, `decisions.rt`,
-//! `endings.rt`, over `txn_slot.rt` and `states.rt`; `operators.rt` refresh and board; `recorder.rt`, `told.rt`,
-//! `history.rt` the service asked, and what contracts see of its answers.
 //! Definitions: `specs/Asked` and `TxnAsked` (what lines ask), `Operators`, `Answer`; `Recorded` is the code's own word.
 #![tactic(auto)]
 

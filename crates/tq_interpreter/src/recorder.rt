@@ -1,8 +1,10 @@
+//! The service that lines are asked of, with what contracts see of its answers.
+
 ghost use Rattle.std.specs.Prelude.{◌≡◌, IfOk};
 
 use crate::history::History;
 use crate::told::{
-    handed_ask, nothing, with_answer, with_desk, with_fault, with_handed, with_view,
+    handed_ask, told_before, with_answer, with_desk, with_fault, with_handed, with_view,
 };
 use std::alloc::Global;
 use std::marker::Model;
@@ -40,12 +42,18 @@ impl Recorder {
 
     /// A service with full limits that was asked nothing.
     pub(crate) fn new(alloc: Global, levels: Levels) -> Result<Recorder, Memory>
-        ensures { IfOk result (λ recorder.
-            recorder ≡ record { journals = empty_world levels full_limits; told = [] }) }
+        ensures { IfOk result (λ recorder. recorder.journals ≡ empty_world levels full_limits) }
     {
         let service = Service::new(alloc, levels, Limits::full())?;
-        let told = nothing();
-        Ok(Recorder { service, told })
+        Ok(Recorder::over(service))
+    }
+
+    /// The same of a service that was asked before.
+    pub(crate) fn over(service: Service) -> Recorder
+        ensures { result.journals ≡ service }
+    {
+        let told = told_before(&service);
+        Recorder { service, told }
     }
 
     /// The service that is asked.

@@ -1,4 +1,6 @@
-ghost use Rattle.std.specs.Prelude.{◌≡◌, ◌++◌, ◌<◌, ◌+◌, [], false, length, None, IfOk, OnOk, OnErr, IfSome, IsNone, vec_len, vec_capacity};
+//! Any line of the shell.
+
+ghost use Rattle.std.specs.Prelude.{◌≡◌, ◌++◌, ◌<◌, ◌+◌, ℕ, [], false, length, None, IfOk, OnOk, OnErr, IfSome, IsNone, vec_len, vec_capacity};
 ghost use Rattle.tq_txn.specs.Dialogue.{line_result};
 ghost use Rattle.tq_txn.specs.States.{levels_of};
 ghost use Rattle.std.specs.Fmt.{decimal};
@@ -28,6 +30,8 @@ pub struct Shell {
     levels: Levels,
     limits: Limits,
     recorder: Recorder,
+    /// How many transactions others had begun.
+    others: u64,
     txns: Vec<TxnSlot>,
 }
 
@@ -40,7 +44,12 @@ impl Model for Shell {
 
     ghost view = { λ shell. record {
       journals = shell.recorder.journals;
-      known = record { levels = shell.levels; limits = shell.limits; txns = shell.txns.items };
+      known = record {
+        levels = shell.levels;
+        limits = shell.limits;
+        others = shell.others;
+        txns = shell.txns.items;
+      };
     } };
 
     ghost invariant = { λ shell.
@@ -49,8 +58,8 @@ impl Model for Shell {
 
 impl Shell {
     ghost use Rattle.std.specs.Prelude.{◌≡◌, ◌++◌, IfOk, OnOk, OnErr};
-    ghost use Rattle.tq_world.specs.World.{item_at};
-    ghost use Rattle.tq_interpreter.specs.Answer.{opening, answer, given_by, IsWhole};
+    ghost use Rattle.tq_interpreter.specs.Known.{known_at};
+    ghost use Rattle.tq_interpreter.specs.Answer.{opening, over, answer, given_by, IsWhole};
     ghost use Rattle.tq_text.specs.Print.{Extends};
 
     /// Every server at cost 1 and up, nothing stored, and no transaction.
@@ -63,8 +72,25 @@ impl Shell {
             levels,
             limits,
             recorder,
+            others: 0,
             txns: Vec::new(alloc),
         })
+    }
+
+    /// A shell over this service, in which no line began a transaction yet: the desk's numbers go on.
+    pub fn over(alloc: Global, service: Service) -> Shell
+        ensures { result ≡ over service }
+    {
+        let limits = service.limits();
+        let levels = service.tables().levels();
+        let others = service.tables().desk().begun();
+        Shell {
+            levels,
+            limits,
+            recorder: Recorder::over(service),
+            others,
+            txns: Vec::new(alloc),
+        }
     }
 
     /// The service that lines are asked of.
@@ -248,13 +274,14 @@ impl Shell {
     /// Where the transaction of that number is kept.
     fn place_of(&self, number: u64) -> Option<usize>
         ensures some { IfSome result (λ place.
-            (number ≡ place + 1) × (place < length self.now.known.txns)) }
-        ensures none { IsNone result → item_at self.now.known.txns number ≡ None }
+            (number ≡ self.now.known.others + place + 1)
+            × (place < length self.now.known.txns)) }
+        ensures none { IsNone result → known_at self.now.known number ≡ None }
     {
-        if number == 0 || number > self.txns.len() as u64 {
+        if number <= self.others || number - self.others > self.txns.len() as u64 {
             return None;
         }
-        Some((number - 1) as usize)
+        Some((number - self.others - 1) as usize)
     }
 }
 
@@ -269,11 +296,11 @@ fn begin_end(
     text: &mut Vec<u8>,
 ) -> Result<(), Memory>
     requires { vec_len txns.old < vec_capacity txns.old }
-    ensures text { OnOk result (Appends text.old text.new
-        (asked.begin_end (known.known_of levels limits txns.old) (line_result answer)).text) }
-    ensures known { (asked.begin_end
-        (known.known_of levels limits txns.old) (line_result answer)).known
-        ≡ known.known_of levels limits txns.new }
+    ensures text { OnOk result ((others : ℕ) → Appends text.old text.new
+        (asked.begin_end (known.known_of levels limits others txns.old) (line_result answer)).text) }
+    ensures known { (others : ℕ) → (asked.begin_end
+        (known.known_of levels limits others txns.old) (line_result answer)).known
+        ≡ known.known_of levels limits others txns.new }
     ensures memory { OnOk result (said.is_refused_memory (line_result answer) ≡ false) }
     ensures kept { OnErr result (Extends text.old.items text.new.items) }
 {
@@ -294,10 +321,11 @@ fn begin_reply(
     text: &mut Vec<u8>,
 ) -> Result<(), Memory>
     requires { vec_len txns.old < vec_capacity txns.old }
-    ensures text { OnOk result (Appends text.old text.new
-        (asked.begin_reply (known.known_of levels limits txns.old) reply).text) }
-    ensures known { (asked.begin_reply (known.known_of levels limits txns.old) reply).known
-        ≡ known.known_of levels limits txns.new }
+    ensures text { OnOk result ((others : ℕ) → Appends text.old text.new
+        (asked.begin_reply (known.known_of levels limits others txns.old) reply).text) }
+    ensures known { (others : ℕ) →
+        (asked.begin_reply (known.known_of levels limits others txns.old) reply).known
+        ≡ known.known_of levels limits others txns.new }
     ensures kept { OnErr result (Extends text.old.items text.new.items) }
 {
     match reply {

@@ -1,11 +1,14 @@
+//! What contracts see of what was told.
+
 ghost use Rattle.std.specs.Prelude.{◌≡◌, ◌++◌, ◌∷◌, [], Ok, Err};
 ghost use Rattle.std.specs.List.{flat_map};
 ghost use Rattle.tq_txn.specs.declared.asker.Exchange.TheVariants as exchanges;
 ghost use Rattle.tq_txn.specs.Dialogue.{unless_memory};
-ghost use Rattle.tq_interpreter.specs.Recorded.{told_exchanges};
+ghost use Rattle.tq_interpreter.specs.Recorded.{mark_of, told_exchanges};
 
 use crate::history::History;
 use tq_asks::{NodeAsk, NodeReply};
+use tq_core::Service;
 use tq_desk::{DeskAsk, DeskReply};
 use tq_live::{ViewAsk, ViewReply};
 use tq_part::{Answered, AskFault};
@@ -47,11 +50,11 @@ struct ServerHanded<'a> {
     answer: &'a Result<Answered<NodeReply>, AskFault>,
 }
 
-/// What was told where nothing was asked.
-pub(crate) fn nothing() -> History<Exchange>
-    ensures { result.items ≡ [] }
+/// What was told where nothing was asked of the service yet: what stands for its journals.
+pub(crate) fn told_before(service: &Service) -> History<Exchange>
+    ensures { result.items ≡ mark_of service.now ∷ [] }
 {
-    History::of(&())
+    History::of(service)
 }
 
 /// What was told, with an ask of a server more that it answered by the entry of that number.

@@ -1,3 +1,5 @@
+//! What is kept of a transaction.
+
 use tq_asks::Verdict;
 use tq_txn::Txn;
 

@@ -1,3 +1,5 @@
+//! Names and contents of files as texts.
+
 ghost use Rattle.std.specs.Prelude.{◌≡◌, IfOk};
 ghost use Rattle.tq_json.specs.Content as spec;
 

@@ -1,3 +1,5 @@
+//! Why a text gives no value.
+
 use json::Invalid;
 use std::alloc::AllocError;
 use thiserror::Error;

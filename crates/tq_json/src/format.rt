@@ -1,3 +1,5 @@
+//! The formats of journal files.
+
 ghost use Rattle.std.specs.Prelude.{◌≡◌, ◌≤◌};
 ghost use Rattle.tq_json.specs.Format as spec;
 

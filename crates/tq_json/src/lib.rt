@@ -1,8 +1,5 @@
 //! JSON as the data that `serde_json` reads, value by value from a reader, and what stands in the objects of journal files.
 //!
-//! Files: `leaf.rt` texts, numbers and flags; `opening.rt` arrays and objects; `passing.rt` values that nobody asks for;
-//! `number.rt` numbers; `fault.rt` why nothing is read; `format.rt` the formats of files; `content.rt` names of files and
-//! contents; `word.rt` words.
 //! Definitions: `specs/Next` (the next value of a reader), `Behind` (what stands behind what is open), `Member` (what stands
 //! at a name), `Format` (what differs between formats), `Content`.
 #![tactic(auto)]

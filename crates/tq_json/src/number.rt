@@ -1,3 +1,5 @@
+//! Numbers, and whether they are in range.
+
 ghost use Rattle.std.specs.Prelude.{◌≡◌, ◌*◌, ◌^◌, ◌<◌, ◌≤◌, ◌==◌, false, true, length, slice_index, Some, IsTrue, IfSome};
 ghost use Rattle.std.specs.Bool.{OnTrue};
 ghost use Rattle.std.specs.Option.{is_some, option_and_then};

@@ -1,3 +1,5 @@
+//! Bytes as UTF-8.
+
 ghost use Rattle.std.specs.Prelude.{IsUtf8, MatchOption};
 ghost use Rattle.tq_json.specs.Next.{IsTextOfBytes};
 

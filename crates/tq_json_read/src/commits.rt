@@ -1,3 +1,5 @@
+//! The parts of a commit's evidence: grants, operations, votes.
+
 ghost use Rattle.std.specs.Prelude.{◌≡◌, refl};
 ghost use Rattle.tq_json_read.specs.Objects.{made_by};
 ghost use Rattle.tq_json_read.specs.Commits as spec;

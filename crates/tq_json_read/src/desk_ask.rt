@@ -1,3 +1,5 @@
+//! Asks of the desk.
+
 ghost use Rattle.std.specs.Prelude.{◌≡◌, refl};
 ghost use Rattle.tq_json_read.specs.Objects.{made_by};
 ghost use Rattle.tq_json_read.specs.Desks as spec;

@@ -1,3 +1,5 @@
+//! Why a text gives no journals.
+
 use thiserror::Error;
 
 /// Why a text gives no journals.

@@ -4,9 +4,6 @@
 //! name asks for is passed over. What entries are read by, the plan, may stand behind them: a first look finds it, and where
 //! the file gives another in the end, it is read once more by that one.
 //!
-//! Files: `read.rt` `journals_from_json`; `plan.rt`, `glance.rt` the plan and the first look; `file.rt` the file; `entry.rt` an
-//! entry; `parts.rt` what can be read, and lists; `object.rt` objects by the names of their members; `scalars.rt` values that
-//! hold no others; one file for each kind of ask and reply; `commits.rt`, `locking.rt` their parts.
 //! Definitions: `specs/Frame` and one for each kind of object; `Faults` what a reader answers. Words of the reader's own:
 //! `Plans` the plan, `Objects` the members of an object, `Slots` what is made of them.
 #![tactic(auto)]

@@ -1,3 +1,5 @@
+//! The parts of a server's replies: locks, votes, refusals.
+
 ghost use Rattle.std.specs.Prelude.{◌≡◌, refl};
 ghost use Rattle.tq_json_read.specs.Objects.{made_by};
 ghost use Rattle.tq_json_read.specs.Locking as spec;

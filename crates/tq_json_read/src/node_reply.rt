@@ -1,3 +1,5 @@
+//! Replies of servers.
+
 ghost use Rattle.std.specs.Prelude.{◌≡◌, refl, IfOk};
 ghost use Rattle.tq_json_read.specs.Objects.{made_by};
 ghost use Rattle.tq_json_read.specs.NodeReplies as spec;

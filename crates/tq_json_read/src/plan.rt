@@ -1,3 +1,5 @@
+//! What the entries of a file are read by.
+
 use tq_json::Format;
 use tq_shape::Levels;
 

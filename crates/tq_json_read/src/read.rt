@@ -1,3 +1,5 @@
+//! `journals_from_json`.
+
 ghost use Rattle.std.specs.Prelude.{◌≡◌, None, Err, IfOk};
 ghost use Rattle.serde_json.specs.Read.{read};
 ghost use Rattle.tq_json_read.specs.Faults.{Answers};

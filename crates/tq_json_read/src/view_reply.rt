@@ -1,3 +1,5 @@
+//! Replies of the view.
+
 ghost use Rattle.std.specs.Prelude.{◌≡◌, Some, refl, IfOk};
 ghost use Rattle.tq_json_read.specs.Objects.{made_by};
 ghost use Rattle.tq_json_read.specs.Slots as slots;

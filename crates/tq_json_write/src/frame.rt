@@ -10,7 +10,8 @@ ghost use Rattle.tq_json_write.specs.Text.{IsTextOf};
 ghost use Rattle.tq_json_write.specs.Written.{Adds};
 
 use crate::out::Out;
-use crate::spilling::{ROOM, Spilling};
+use crate::room::Room;
+use crate::spilling::Spilling;
 use crate::text::Text;
 use crate::to_json::{ToJson, put_after, put_list};
 use std::alloc::Global;
@@ -91,7 +92,7 @@ pub fn write_journals<W: Sink>(
         (W.taken writer.old) (W.taken writer.new) (W.failed writer.old) (W.failed writer.new) }
     ensures fits { OnOk result (IsFitting (journals_value journals.now)) }
 {
-    let mut room = Vec::with_capacity(alloc, ROOM)?;
+    let mut room = Room::new(alloc)?;
     let mut out = Spilling::new(writer, &mut room);
     spill_line(&mut out, journals);
     out.end()
@@ -100,11 +101,11 @@ pub fn write_journals<W: Sink>(
 /// Puts the journals as one line. Nothing was put before.
 fn spill_line<W: Sink>(out: &mut Spilling<W>, journals: &Journals)
     requires nothing { IsSpilled (W.taken out.old.sink.now) (W.failed out.old.sink.now)
-        (spill W.taken W.failed out.old.sink.now out.old.has_failed out.old.room.now.items) [] }
+        (spill W.taken W.failed out.old.sink.now out.old.has_failed out.old.room.now) [] }
     ensures same_sink { out.new.sink.ghost_name ≡ out.old.sink.ghost_name }
     ensures same_room { out.new.room.ghost_name ≡ out.old.room.ghost_name }
     ensures spilled { IsSpilled (W.taken out.old.sink.now) (W.failed out.old.sink.now)
-        (spill W.taken W.failed out.new.sink.now out.new.has_failed out.new.room.now.items)
+        (spill W.taken W.failed out.new.sink.now out.new.has_failed out.new.room.now)
         (journals_line journals.now) }
     ensures fits { IsFitting (journals_value journals.now) }
     ensures kept { AreSound journals.now }

@@ -5,12 +5,10 @@ ghost use Rattle.hex.specs.Hex.{encode_lower};
 ghost use Rattle.tq_json_write.specs.Spilled.{Ends, IsSpilled, Settles, Spills, spill};
 
 use crate::out::Out;
+use crate::room::Room;
 use itoa::Buffer;
 use std::convert::Infallible;
 use tq_devices::{RunFault, Sink, write_out};
-
-/// The bytes that the room has a place for.
-pub(crate) const ROOM: usize = 65_536;
 
 /// The most digits of a number.
 const MOST_DIGITS: usize = 20;
@@ -18,25 +16,25 @@ const MOST_DIGITS: usize = 20;
 /// So many bytes are spelled at a time, where the room has no place for the digits of all.
 const PART: usize = 32;
 
-/// Text that is written as it comes: it is gathered in a room, which never grows, and goes to the sink when the room has no place
+/// Text that is written as it comes: it is gathered in a room, and goes to the sink when the room has no place
 /// for the next piece. Once the sink has failed nothing more is written. A piece longer than the room is written at once.
 #[derive(Drop)]
 pub(crate) struct Spilling<'a, W: Sink> {
     pub(crate) sink: &'a mut W,
-    pub(crate) room: &'a mut Vec<u8>,
+    pub(crate) room: &'a mut Room,
     pub(crate) has_failed: bool,
 }
 
 impl<'a, W: Sink> Spilling<'a, W> {
     /// No text yet, and an empty room.
-    pub(crate) fn new(sink: &'a mut W, room: &'a mut Vec<u8>) -> Spilling<'a, W>
+    pub(crate) fn new(sink: &'a mut W, room: &'a mut Room) -> Spilling<'a, W>
         requires few { W.failed sink.old < 2 ^ 64 - 1 }
-        requires empty { room.old.items ≡ [] }
+        requires empty { room.old ≡ [] }
         ensures same_sink { result.sink.ghost_name ≡ sink.entry.ghost_name }
         ensures same_room { result.room.ghost_name ≡ room.entry.ghost_name }
         ensures same { result.sink.now ≡ sink.old }
         ensures nothing { IsSpilled (W.taken result.sink.now) (W.failed result.sink.now)
-            (spill W.taken W.failed result.sink.now result.has_failed result.room.now.items) [] }
+            (spill W.taken W.failed result.sink.now result.has_failed result.room.now) [] }
     {
         Spilling {
             sink,
@@ -50,7 +48,7 @@ impl<'a, W: Sink> Spilling<'a, W> {
         ensures same_sink { self.new.sink.ghost_name ≡ self.old.sink.ghost_name }
         ensures same_room { self.new.room.ghost_name ≡ self.old.room.ghost_name }
         ensures ends { Ends result
-            (spill W.taken W.failed self.old.sink.now self.old.has_failed self.old.room.now.items)
+            (spill W.taken W.failed self.old.sink.now self.old.has_failed self.old.room.now)
             (W.taken self.new.sink.now) (W.failed self.new.sink.now) }
     {
         self.flush();
@@ -65,19 +63,13 @@ impl<'a, W: Sink> Spilling<'a, W> {
     fn flush(&mut self)
         ensures same_sink { self.new.sink.ghost_name ≡ self.old.sink.ghost_name }
         ensures same_room { self.new.room.ghost_name ≡ self.old.room.ghost_name }
-        ensures empty { self.new.room.now.items ≡ [] }
+        ensures empty { self.new.room.now ≡ [] }
         ensures settles { Settles
-            (spill W.taken W.failed self.old.sink.now self.old.has_failed self.old.room.now.items)
+            (spill W.taken W.failed self.old.sink.now self.old.has_failed self.old.room.now)
             (spill W.taken W.failed self.new.sink.now self.new.has_failed []) }
     {
         self.has_failed = pass_on(self.sink, self.has_failed, self.room.as_slice());
         self.room.clear();
-    }
-
-    /// How many bytes the room has a place for.
-    #[inline(always)]
-    fn spare(&self) -> usize {
-        self.room.capacity() - self.room.len()
     }
 
     /// Puts the bytes into the room, which is written out first where it has no place for them.
@@ -86,12 +78,12 @@ impl<'a, W: Sink> Spilling<'a, W> {
         ensures same_sink { self.new.sink.ghost_name ≡ self.old.sink.ghost_name }
         ensures same_room { self.new.room.ghost_name ≡ self.old.room.ghost_name }
         ensures spills { Spills
-            (spill W.taken W.failed self.old.sink.now self.old.has_failed self.old.room.now.items)
-            (spill W.taken W.failed self.new.sink.now self.new.has_failed self.new.room.now.items)
+            (spill W.taken W.failed self.old.sink.now self.old.has_failed self.old.room.now)
+            (spill W.taken W.failed self.new.sink.now self.new.has_failed self.new.room.now)
             bytes.now }
     {
-        if bytes.len() <= self.spare() {
-            if self.room.extend_from_slice(bytes).is_ok() {
+        if bytes.len() <= self.room.spare() {
+            if self.room.put(bytes) {
                 return;
             }
         }
@@ -105,13 +97,13 @@ impl<'a, W: Sink> Spilling<'a, W> {
         ensures same_sink { self.new.sink.ghost_name ≡ self.old.sink.ghost_name }
         ensures same_room { self.new.room.ghost_name ≡ self.old.room.ghost_name }
         ensures spills { Spills
-            (spill W.taken W.failed self.old.sink.now self.old.has_failed self.old.room.now.items)
-            (spill W.taken W.failed self.new.sink.now self.new.has_failed self.new.room.now.items)
+            (spill W.taken W.failed self.old.sink.now self.old.has_failed self.old.room.now)
+            (spill W.taken W.failed self.new.sink.now self.new.has_failed self.new.room.now)
             bytes.now }
     {
         self.flush();
-        if bytes.len() <= self.spare() {
-            if self.room.extend_from_slice(bytes).is_ok() {
+        if bytes.len() <= self.room.spare() {
+            if self.room.put(bytes) {
                 return;
             }
         }
@@ -123,8 +115,8 @@ impl<'a, W: Sink> Spilling<'a, W> {
         ensures same_sink { self.new.sink.ghost_name ≡ self.old.sink.ghost_name }
         ensures same_room { self.new.room.ghost_name ≡ self.old.room.ghost_name }
         ensures spills { Spills
-            (spill W.taken W.failed self.old.sink.now self.old.has_failed self.old.room.now.items)
-            (spill W.taken W.failed self.new.sink.now self.new.has_failed self.new.room.now.items)
+            (spill W.taken W.failed self.old.sink.now self.old.has_failed self.old.room.now)
+            (spill W.taken W.failed self.new.sink.now self.new.has_failed self.new.room.now)
             bytes.now }
     {
         self.flush();
@@ -138,8 +130,8 @@ impl<'a, W: Sink> Spilling<'a, W> {
         ensures same_sink { self.new.sink.ghost_name ≡ self.old.sink.ghost_name }
         ensures same_room { self.new.room.ghost_name ≡ self.old.room.ghost_name }
         ensures spills { Spills
-            (spill W.taken W.failed self.old.sink.now self.old.has_failed self.old.room.now.items)
-            (spill W.taken W.failed self.new.sink.now self.new.has_failed self.new.room.now.items)
+            (spill W.taken W.failed self.old.sink.now self.old.has_failed self.old.room.now)
+            (spill W.taken W.failed self.new.sink.now self.new.has_failed self.new.room.now)
             (decimal number) }
     {
         let mut digits = Buffer::new();
@@ -153,8 +145,8 @@ impl<'a, W: Sink> Spilling<'a, W> {
         ensures same_sink { self.new.sink.ghost_name ≡ self.old.sink.ghost_name }
         ensures same_room { self.new.room.ghost_name ≡ self.old.room.ghost_name }
         ensures spills { Spills
-            (spill W.taken W.failed self.old.sink.now self.old.has_failed self.old.room.now.items)
-            (spill W.taken W.failed self.new.sink.now self.new.has_failed self.new.room.now.items)
+            (spill W.taken W.failed self.old.sink.now self.old.has_failed self.old.room.now)
+            (spill W.taken W.failed self.new.sink.now self.new.has_failed self.new.room.now)
             (encode_lower bytes.now) }
     {
         let mut rest = bytes;
@@ -172,8 +164,8 @@ impl<'a, W: Sink> Spilling<'a, W> {
         ensures same_sink { self.new.sink.ghost_name ≡ self.old.sink.ghost_name }
         ensures same_room { self.new.room.ghost_name ≡ self.old.room.ghost_name }
         ensures spills { Spills
-            (spill W.taken W.failed self.old.sink.now self.old.has_failed self.old.room.now.items)
-            (spill W.taken W.failed self.new.sink.now self.new.has_failed self.new.room.now.items)
+            (spill W.taken W.failed self.old.sink.now self.old.has_failed self.old.room.now)
+            (spill W.taken W.failed self.new.sink.now self.new.has_failed self.new.room.now)
             (encode_lower part.now) }
     {
         let mut room = [0; 2 * PART];
@@ -212,7 +204,7 @@ impl<'a, W: Sink> Out for Spilling<'a, W> {
     ghost puts = { λ start out text. (out.sink.ghost_name ≡ start.sink.ghost_name)
         × (out.room.ghost_name ≡ start.room.ghost_name)
         × IsSpilled (W.taken start.sink.now) (W.failed start.sink.now)
-        (spill W.taken W.failed out.sink.now out.has_failed out.room.now.items) text };
+        (spill W.taken W.failed out.sink.now out.has_failed out.room.now) text };
 
     #[inline(always)]
     fn push(&mut self, piece: &str) -> Result<(), Infallible> {
@@ -227,8 +219,8 @@ impl<'a, W: Sink> Out for Spilling<'a, W> {
 
     #[inline(always)]
     fn push_number(&mut self, number: u64) -> Result<(), Infallible> {
-        if MOST_DIGITS <= self.spare() {
-            if tq_digits::push_number(self.room, number).is_ok() {
+        if MOST_DIGITS <= self.room.spare() {
+            if self.room.put_number(number) {
                 return Ok(());
             }
         }
@@ -237,12 +229,10 @@ impl<'a, W: Sink> Out for Spilling<'a, W> {
     }
 
     fn push_digits(&mut self, bytes: &[u8]) -> Result<(), Infallible> {
-        if bytes.len() <= self.spare() / 2 {
-            let len = self.room.len();
-            if tq_digits::push_bytes(self.room, bytes).is_ok() {
+        if bytes.len() <= self.room.spare() / 2 {
+            if self.room.put_digits(bytes) {
                 return Ok(());
             }
-            self.room.truncate(len);
         }
         self.put_parts(bytes);
         Ok(())

@@ -1,3 +1,5 @@
+//! The view as a part that answers asks.
+
 use crate::change::ViewChange;
 use crate::view::{View, ViewAsk, ViewReply};
 use std::alloc::Global;

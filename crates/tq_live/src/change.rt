@@ -1,3 +1,5 @@
+//! What an ask changes in a view.
+
 use crate::costs::Costs;
 use crate::purpose::Purpose;
 use tq_coterie::Quorum;

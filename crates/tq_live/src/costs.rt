@@ -1,3 +1,5 @@
+//! The two costs of a server.
+
 ghost use Rattle.std.specs.Prelude.{◌≡◌};
 ghost use Rattle.tq_live.specs.View as spec;
 ghost use Rattle.tq_live.specs.Costs.{even_costs};

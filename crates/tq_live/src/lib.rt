@@ -1,7 +1,5 @@
 //! Least-cost quorums of a tree whose servers have costs and marks, and the view that keeps them by asks and replies.
 //!
-//! Files: `view.rt` asks and replies; `tree.rt` the tree; `node.rt` a server with all below it, the walks and the repair;
-//! `tree/cache.rt` what it keeps, with the count of caches written; `choice.rt`, `costs.rt` words.
 //! Definitions: `specs/Live`, `Least`, `View`; `Kept`, `Weights`, `Form` and `LiveOf` are the code's own words.
 #![tactic(auto)]
 

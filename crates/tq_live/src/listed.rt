@@ -1,3 +1,5 @@
+//! A set of servers as a list.
+
 ghost use Rattle.std.specs.Prelude.{◌≡◌, IfOk};
 ghost use Rattle.tq_coterie.specs.Coterie.{servers_of};
 

@@ -1,3 +1,5 @@
+//! A server with all below it: the walks down, and the repair of one path.
+
 ghost use Rattle.std.specs.Prelude.{◌≡◌, ℕ, ◌+◌, ◌*◌, ◌^◌, ◌<◌, ◌≤◌, IfOk, IfSome, OnOk, Some, None, List, cond};
 ghost use Rattle.tq_shape.specs.Tree.{IsServer};
 ghost use Rattle.tq_shape.specs.ServerSet.{set_with};

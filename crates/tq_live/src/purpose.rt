@@ -1,3 +1,5 @@
+//! What a quorum is chosen for.
+
 ghost use Rattle.std.specs.Prelude.{◌≡◌};
 ghost use Rattle.std.specs.Str.{bytes_eq};
 ghost use Rattle.tq_live.specs.Purposes as spec;

@@ -1,3 +1,5 @@
+//! What is set anew at a server.
+
 use crate::costs::Costs;
 
 /// What is set anew at a server.

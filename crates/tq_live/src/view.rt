@@ -1,3 +1,5 @@
+//! The view, its asks and its replies.
+
 ghost use Rattle.std.specs.Prelude.{◌≡◌, ◌++◌, ◌∷◌, [], List, ℕ, IfOk, OnOk, OnErr};
 
 use crate::change::ViewChange;

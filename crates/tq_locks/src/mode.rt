@@ -1,3 +1,5 @@
+//! Modes and locks.
+
 ghost use Rattle.std.specs.Prelude.{◌≡◌};
 ghost use Rattle.tq_locks.specs.Locks as spec;
 

@@ -1,3 +1,5 @@
+//! Whether two callers were told the same entry.
+
 ghost use Rattle.std.specs.Prelude.{◌≡◌, ◌≤◌, All, IfOk, length};
 ghost use Rattle.tq_merge.specs.EntryNames.{IsWithin};
 ghost use Rattle.tq_merge.specs.Claims.{IsClaimed};

@@ -1,3 +1,5 @@
+//! Why a cluster is closed without an order.
+
 ghost use Rattle.std.specs.Prelude.{◌≡◌};
 ghost use Rattle.tq_merge.specs.declared.close_fault.CloseFault.TheVariants as faults;
 

@@ -1,3 +1,5 @@
+//! What callers were told, compared with journals.
+
 ghost use Rattle.std.specs.Prelude.{◌≡◌, IfOk};
 ghost use Rattle.tq_merge.specs.Kept.{IsCompared};
 

@@ -1,3 +1,5 @@
+//! Entries of any part as steps with replies.
+
 ghost use Rattle.std.specs.Prelude.{◌≡◌, IfOk};
 ghost use Rattle.tq_merge.specs.Told.{found_at, node_found, desk_found, view_found};
 

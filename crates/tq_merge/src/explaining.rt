@@ -1,3 +1,5 @@
+//! The search for an order.
+
 ghost use Rattle.std.specs.Prelude.{◌≡◌, IfOk, IfErr};
 ghost use Rattle.tq_world.specs.Steps.{run};
 ghost use Rattle.tq_world.specs.CommittedReads.{HasCommittedReads};

@@ -1,3 +1,5 @@
+//! The lengths of journals.
+
 ghost use Rattle.std.specs.Prelude.{◌≡◌, ◌≤◌, All, IfOk, vec_len};
 ghost use Rattle.tq_merge.specs.Told.{counts_of};
 

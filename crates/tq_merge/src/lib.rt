@@ -1,9 +1,6 @@
 //! An order for journals: which entry came after which, so that all that an entry cites stood before it. And whether what
 //! callers were told stands in journals, each entry told once.
 //!
-//! Files: `explaining.rt` the search for an order; `placing.rt` what is placed, `waiting.rt` who waits for it; `wrong.rt`
-//! the replay; `cited.rt`, `ready.rt` citations; `compared.rt`, `told_stands.rt` what callers were
-//! told, `name.rt`, `rising.rt`, `claimed.rt` over `marks.rt` by the names of its entries.
 //! Definitions: `specs/Order`, `Wrong`, `Faults`; as they stood while a server had one cost `OneCost`; of a closed cluster
 //! `Told`, `EntryNames`, `Claims`, `Kept`, `Closed`. `Cited` and `Placing` are the code's own words.
 #![tactic(auto)]

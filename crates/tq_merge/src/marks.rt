@@ -1,3 +1,5 @@
+//! Which entries of a journal are named.
+
 ghost use Rattle.std.specs.Prelude.{◌≡◌, ◌≤◌, ◌-◌, ◌*◌, All, false, true, not, count_by, get_or, length, map, replicate, set, IfOk};
 ghost use Rattle.std.specs.List.{sum_by};
 

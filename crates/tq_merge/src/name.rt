@@ -1,3 +1,5 @@
+//! The name of an entry: its part and its number.
+
 ghost use Rattle.std.specs.Prelude.{◌≡◌, ◌<◌, length};
 ghost use Rattle.tq_merge.specs.EntryNames as spec;
 

@@ -1,3 +1,5 @@
+//! The names of what a caller was told.
+
 ghost use Rattle.std.specs.Prelude.{◌≡◌, IfOk};
 ghost use Rattle.std.specs.Option.{option_to_list};
 ghost use Rattle.tq_merge.specs.Told as spec;

@@ -1,3 +1,5 @@
+//! Whether the numbers that a caller was told rise.
+
 ghost use Rattle.std.specs.Prelude.{◌≡◌, All, IfOk, MatchOption};
 ghost use Rattle.tq_merge.specs.EntryNames.{IsFallen, IsWithin, Rise};
 

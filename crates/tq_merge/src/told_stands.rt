@@ -1,3 +1,5 @@
+//! Whether what was told stands in the journals.
+
 ghost use Rattle.std.specs.Prelude.{◌≡◌, ◌↔◌, IsTrue, Some};
 ghost use Rattle.std.specs.Option.{option_copied};
 ghost use Rattle.tq_shape.specs.Journal.{entry};

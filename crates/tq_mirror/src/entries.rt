@@ -1,3 +1,5 @@
+//! Entries of one part.
+
 use tq_shape::Seq;
 use tq_tables::{DeskEntry, NodeEntry, ViewEntry};
 

@@ -1,3 +1,5 @@
+//! Why nothing was pulled.
+
 use crate::entries::Entries;
 use std::alloc::AllocError;
 use tq_shape::Part;

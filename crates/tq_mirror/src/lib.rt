@@ -1,8 +1,6 @@
 //! What was pulled of the journals of a system: of each part the first entries, and the tables over them. It is plain
 //! data: nothing here asks a part.
 //!
-//! Files: `prefixes.rt` the prefixes with their tables; `following.rt` these with more entries; `entries.rt` entries of one
-//! part; `astray.rt` the first part whose prefix is foreign; `fault.rt` faults.
 //! Definitions: `specs/Prefixes`, `Astray`; `Kept` is the code's own word.
 #![tactic(auto)]
 

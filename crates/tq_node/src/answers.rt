@@ -1,3 +1,5 @@
+//! The server as a part that answers asks.
+
 use crate::{Node, NodeAsk, NodeChange, NodeReply};
 use std::alloc::Global;
 use tq_part::{Answers, Plan};

@@ -1,3 +1,5 @@
+//! Functions without a body: their contracts are the laws of a server's journal.
+
 ghost use Rattle.tq_node.specs.NodeLaws as laws;
 
 /// What holds of each legal journal of a server, whatever its asks cite: a finished write is seen by whoever

@@ -1,8 +1,5 @@
 //! A server: its copies, locks and votes, what it answers to each ask, and what its journals say.
 //!
-//! Files: `node.rt` the server, by plan and change; `node/refusals.rt` what it refuses an ask for; `change.rt` what an ask
-//! changes and what a stop leaves; `node/telling.rt` the same asks answered at once; `votes.rt` what a vote lists; `laws.rt`
-//! functions without a body, whose contracts are the laws of a journal.
 //! Definitions: `specs/Records` (the step as a function), `Cases` (by cases), `Node`, `Telling`, `NodeJournal`,
 //! `NodeLaws`; `Walks` is the code's own word. `proofs/Frames`, `StepFrames`, `StopFrames` are laws of one entry, `Lawful`
 //! of a journal.

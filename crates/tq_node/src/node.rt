@@ -1,3 +1,5 @@
+//! The server, by plan and change.
+
 ghost use Rattle.std.specs.Prelude.{◌≡◌, ◌<◌, ◌≤◌, false, OnOk, OnErr, IfOk, IsSome, None, Ok};
 ghost use Rattle.std.specs.FinMap as fin;
 ghost use Rattle.tq_intents.specs.Kept.{AreDead};

@@ -1,3 +1,5 @@
+//! A reply told twice, where an ask is answered at once.
+
 ghost use Rattle.std.specs.Prelude.{◌≡◌, [], ◌∷◌, IfOk};
 ghost use Rattle.tq_node.specs.Untouched.{step_raises};
 

@@ -1,3 +1,5 @@
+//! The two ends of a queue.
+
 ghost use Rattle.std.specs.Prelude.{◌≡◌, ◌<◌, ◌+◌, true, false, [], ◌++◌, IfOk, IfSome, IfNone, OnErr};
 ghost use Rattle.std.specs.Bool.{OnTrue, OnFalse};
 ghost use Rattle.crossbeam_channel.specs.Claims.{view, IsSeatAt};

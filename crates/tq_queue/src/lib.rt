@@ -1,6 +1,5 @@
 //! A bounded queue under a rule: what all takers together took is the first of what was put, in order, each once.
 //!
-//! Files: `ends.rt` the two ends; `queue.rt` the calls of a channel under the rule; `pass_knowledge.rt` what a pass knows.
 //! Definitions: `specs/Rule`; `proofs/Steps` that each call keeps it, `Totals` sums over all passes.
 #![tactic(auto)]
 

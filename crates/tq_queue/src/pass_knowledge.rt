@@ -1,3 +1,5 @@
+//! What a pass knows of a queue.
+
 use crossbeam_channel::protocol::{Join, Lesson, Outcome, Protocol, Split};
 use std::collections::LinkedList;
 

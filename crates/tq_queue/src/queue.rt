@@ -1,3 +1,5 @@
+//! The calls of a channel, under the rule.
+
 ghost use Rattle.std.specs.Prelude.{◌≡◌, ◌<◌, true, false, [], IfOk, IfSome, IfNone};
 ghost use Rattle.std.specs.Bool.{OnTrue, OnFalse};
 ghost use Rattle.crossbeam_channel.specs.Claims.{view, IsSeatAt};

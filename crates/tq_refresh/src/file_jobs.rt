@@ -1,3 +1,5 @@
+//! The jobs of one file.
+
 ghost use Rattle.std.specs.Prelude.{◌≡◌, IfOk};
 ghost use Rattle.tq_refresh.specs.Plan as spec;
 

@@ -1,3 +1,5 @@
+//! One stale copy, and where it is mended from.
+
 ghost use Rattle.std.specs.Prelude.{◌≡◌, IfOk, Ok, None, Some};
 ghost use Rattle.tq_refresh.specs.Plan as spec;
 ghost use Rattle.tq_refresh.specs.Plan.{refresh_of};

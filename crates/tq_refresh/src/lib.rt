@@ -1,7 +1,6 @@
 //! Refresh: which stale copies of the tables are mended and from where, what is asked to mend them, and how a worker asks it
 //! over any asker.
 //!
-//! Files: `planning.rt` the plan; `job.rt`, `file_jobs.rt` its jobs; `mending.rt` what a worker asks for them.
 //! Definitions: `specs/Plan`, `Mending`.
 #![tactic(auto)]
 

@@ -1,3 +1,5 @@
+//! What a worker asks for a job.
+
 ghost use Rattle.std.specs.Prelude.{◌≡◌, true, false, IfOk, OnOk, OnErr};
 ghost use Rattle.tq_refresh.specs.Mending.{IsAnswered, IsBegun, Grows, refresh_asked, worker_asked};
 

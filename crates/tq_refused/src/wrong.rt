@@ -1,3 +1,5 @@
+//! Why a scenario ends.
+
 use std::alloc::AllocError;
 use thiserror::Error;
 

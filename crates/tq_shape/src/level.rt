@@ -1,3 +1,5 @@
+//! How many levels a tree has.
+
 ghost use Rattle.std.specs.Prelude.{◌≡◌, ℕ, ◌+◌, ◌-◌, ◌*◌, ◌^◌, ◌<◌, ◌≤◌};
 
 use std::marker::Model;

@@ -1,8 +1,6 @@
 //! The words that every other crate speaks in: the shape of a complete binary tree of servers, the parts of a system and
 //! their journals' entries, the limits, and lists that contracts see as lists.
 //!
-//! Files: `server.rt`, `level.rt` the tree; `server_set.rt` over `words.rt` a set of servers; `part.rt`, `entry.rt`,
-//! `limits.rt` words of journals; `list.rt`, `shared.rt`, `shared_list.rt`, `room.rt` lists, shared values, room.
 //! Definitions: `specs/Tree`, `Depth`, `Sides`, `Limits`, `ServerSet`, `Journal`, `Steps`, `Unrefused`; `proofs/Places` and `Joined`
 //! are cited by all crates above.
 #![tactic(auto)]

@@ -1,3 +1,5 @@
+//! Lists that contracts see as lists.
+
 ghost use Rattle.std.specs.Prelude.{◌≡◌, [], ◌∷◌, ◌++◌, IfOk, IfErr, OnOk, OnErr, length, ◌↔◌, IsTrue};
 
 use std::alloc::{AllocError, Global};

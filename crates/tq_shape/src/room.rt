@@ -1,3 +1,5 @@
+//! Room that is made before it is used.
+
 ghost use Rattle.std.specs.Prelude.{◌≡◌, ◌+◌, ◌<◌, ◌≤◌, vec_len, vec_capacity, OnOk, OnErr};
 
 use std::alloc::AllocError;

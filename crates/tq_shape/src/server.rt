@@ -1,3 +1,5 @@
+//! Servers by their numbers, and their places in the tree.
+
 ghost use Rattle.std.specs.Prelude.{◌≡◌, ℕ, ◌+◌, ◌-◌, ◌*◌, ◌/◌, ◌^◌, ◌<◌, ◌≤◌, ◌↔◌, suc, IfSome, IfNone, IsTrue};
 ghost use Rattle.std.specs.Option.{SomeIff};
 ghost use Rattle.tq_shape.specs.Tree.{AnswersServer, HasNoSideTowards, IsServer, IsSideTowards};

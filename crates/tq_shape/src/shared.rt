@@ -1,3 +1,5 @@
+//! Values that their clones share.
+
 ghost use Rattle.std.specs.Prelude.{◌≡◌, IfOk};
 
 use crate::{ExactClone, Memory};

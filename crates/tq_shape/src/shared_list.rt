@@ -1,3 +1,5 @@
+//! Lists that their clones share.
+
 ghost use Rattle.std.specs.Prelude.{◌≡◌, [], IfOk, length, ◌↔◌, IsTrue};
 
 use crate::ExactClone;

@@ -1,3 +1,5 @@
+//! The words of bits that a set of servers is made of.
+
 ghost use Rattle.std.specs.Prelude.{◌≡◌, ◌∷◌, ◌+◌, ◌<◌, IfOk, length, replicate, slice_index, slice_set};
 
 use crate::Memory;

@@ -7,3 +7,4 @@ pub mod UpgradeLaws
 pub mod ThreadsLaws
 pub mod FewScripts
 pub mod BadLine
+mod RehearsalLaws

@@ -7,7 +7,7 @@ use Rattle.std.proofs.lemmas.List.Splits.{length-slice_split}
 use Rattle.tq_syntax.specs.declared.line.Line.{Line}
 use Rattle.tq_syntax.specs.declared.line.Line.TheVariants.{Bad}
 use Rattle.tq_syntax.specs.Line.{line_of}
-use Rattle.tq_interpreter.specs.Answer.{World, opening, answer}
+use Rattle.tq_interpreter.specs.Answer.{World, answer}
 use Rattle.tq_syntax.specs.Word.{without_return}
 use Rattle.tq_syntax.specs.Text.{last_line, whole_parts, last_part, parts_of}
 use Rattle.tq_shell.specs.Session.{lines_text, text_of, whole_text}
@@ -144,8 +144,8 @@ onto_nothing : (parts : List (List ℕ)) → onto_parts [] parts ≡ parts
 onto_nothing [] = refl
 onto_nothing (part ∷ parts) = refl
 
-pub whole_text-answers : (levels : ℕ) (bytes : List ℕ) → answers_to (nothing_received levels) bytes ≡ whole_text levels bytes
-whole_text-answers levels bytes = whole_parts-answers (opening levels) [] bytes ∙ ap (λ parts. lines_text (opening levels) (whole_parts parts)) (onto_nothing (parts_of bytes))
+pub whole_text-answers : (world : World) (bytes : List ℕ) → answers_to (nothing_received world) bytes ≡ whole_text world bytes
+whole_text-answers world bytes = whole_parts-answers world [] bytes ∙ ap (λ parts. lines_text world (whole_parts parts)) (onto_nothing (parts_of bytes))
 
-pub text_of-answers : (levels : ℕ) (bytes : List ℕ) → answers_to (nothing_received levels) bytes ++ answer_to_last (received_all (nothing_received levels) bytes) ≡ text_of levels bytes
-text_of-answers levels bytes = answers_to_parts (opening levels) [] bytes ∙ ap (λ parts. lines_text (opening levels) (all_parts parts)) (onto_nothing (parts_of bytes))
+pub text_of-answers : (world : World) (bytes : List ℕ) → answers_to (nothing_received world) bytes ++ answer_to_last (received_all (nothing_received world) bytes) ≡ text_of world bytes
+text_of-answers world bytes = answers_to_parts world [] bytes ∙ ap (λ parts. lines_text world (all_parts parts)) (onto_nothing (parts_of bytes))

@@ -7,6 +7,7 @@ pub mod Verdicts
 pub mod Report
 pub mod Audit
 pub mod Upgrade
+pub mod Rehearsal
 pub mod Outcome
 pub mod Running
 pub mod Threads

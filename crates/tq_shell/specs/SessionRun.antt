@@ -1,22 +1,23 @@
 -- What a run has written for the bytes that it has read, by the way that it ended.
 use Rattle.std.specs.Prelude.{◌≡◌, ℕ, Bool, ◌+◌, ◌<◌, ◌≤◌, List, ◌++◌, Option, Result, Ok, Err, length, take}
 use Rattle.std.specs.Io.KnownBytes.{Appends}
+use Rattle.tq_interpreter.specs.Answer.{World}
 use Rattle.tq_shell.specs.Session.{text_of, whole_text, answered_text}
 use Rattle.tq_shell.specs.Stream.{Received, nothing_received, received_all, answers_to}
 use Rattle.tq_devices.specs.declared.fault.RunFault.{RunFault}
 use Rattle.tq_devices.specs.declared.fault.RunFault.TheVariants.{Memory, Read, Write, TooLong}
 
--- levels, whether the end was reached, bytes read, text written
-abbrev pub IsRunText : {T : Type 0} → Result T RunFault → ℕ → Bool → List ℕ → List ℕ → Type 0
-IsRunText (Ok done) levels ended bytes text = (length bytes ≤ 16777216) × (text ≡ text_of levels bytes)
+-- the world that the lines begin in, whether the end was reached, bytes read, text written
+abbrev pub IsRunText : {T : Type 0} → Result T RunFault → World → Bool → List ℕ → List ℕ → Type 0
+IsRunText (Ok done) world ended bytes text = (length bytes ≤ 16777216) × (text ≡ text_of world bytes)
 -- the text of some first lines, each whole
-IsRunText (Err Memory) levels ended bytes text = (count : ℕ) × (text ≡ whole_text levels (take count bytes))
-IsRunText (Err Read) levels ended bytes text = text ≡ whole_text levels bytes
+IsRunText (Err Memory) world ended bytes text = (count : ℕ) × (text ≡ whole_text world (take count bytes))
+IsRunText (Err Read) world ended bytes text = text ≡ whole_text world bytes
 -- a prefix of the text of the lines that are answered
-IsRunText (Err Write) levels ended bytes text =
-    (rest : List ℕ) × (text ++ rest ≡ answered_text levels ended bytes)
-IsRunText (Err TooLong) levels ended bytes text =
-    (16777216 < length bytes) × (text ≡ whole_text levels (take 16777216 bytes))
+IsRunText (Err Write) world ended bytes text =
+    (rest : List ℕ) × (text ++ rest ≡ answered_text world ended bytes)
+IsRunText (Err TooLong) world ended bytes text =
+    (16777216 < length bytes) × (text ≡ whole_text world (take 16777216 bytes))
 
 -- where a piece is answered in part: its front is received, what that says is written, and the rest is left
 pub record IsAnswering (start : Received) (piece : List ℕ) (taken taken_now : Option (List ℕ)) (received : Received) (left : List ℕ) : Type 0 where
@@ -26,9 +27,9 @@ pub record IsAnswering (start : Received) (piece : List ℕ) (taken taken_now : 
   pub received_is : received ≡ received_all start front
 
 -- where a run stands before a read: what the source has given is received, and what that says is written
-pub record IsGoing (levels : ℕ) (given given_now taken taken_now : Option (List ℕ)) (received : Received) (left : ℕ) : Type 0 where
+pub record IsGoing (world : World) (given given_now taken taken_now : Option (List ℕ)) (received : Received) (left : ℕ) : Type 0 where
   pub bytes : List ℕ
   pub read : Appends given given_now bytes
-  pub wrote : Appends taken taken_now (answers_to (nothing_received levels) bytes)
-  pub received_is : received ≡ received_all (nothing_received levels) bytes
+  pub wrote : Appends taken taken_now (answers_to (nothing_received world) bytes)
+  pub received_is : received ≡ received_all (nothing_received world) bytes
   pub room : length bytes + left ≡ 16777216

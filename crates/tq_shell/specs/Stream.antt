@@ -4,7 +4,7 @@ use Rattle.std.specs.Global.{Vec}
 use Rattle.tq_text.specs.Print.{Appends}
 use Rattle.tq_shell.specs.declared.receiver.TheConstants.{KEPT, FLUSH_AT}
 use Rattle.tq_syntax.specs.Line.{line_of}
-use Rattle.tq_interpreter.specs.Answer.{World, Answer, opening, answer}
+use Rattle.tq_interpreter.specs.Answer.{World, Answer, answer}
 use Rattle.tq_syntax.specs.Word.{without_return}
 
 -- what was received: the world after the whole lines, and what is kept of the line that goes on
@@ -12,8 +12,8 @@ pub record Received : Type 0 where
   pub world : World
   pub line : List ℕ
 
-abbrev pub nothing_received : ℕ → Received
-nothing_received levels = record { world = opening levels; line = [] }
+abbrev pub nothing_received : World → Received
+nothing_received world = record { world = world; line = [] }
 
 -- of a line no more bytes are kept than show that it is too long, also if one of them is a carriage return
 abbrev pub cut_line : List ℕ → List ℕ → List ℕ

@@ -1,3 +1,5 @@
+//! What an audit finds, and its line.
+
 ghost use Rattle.std.specs.Prelude.{◌≡◌, ◌++◌, IfOk, OnOk};
 ghost use Rattle.tq_shell.specs.Texts as spec;
 

@@ -1,3 +1,5 @@
+//! Whether an order explains the journals of a file.
+
 ghost use Rattle.std.specs.Prelude.{IfOk};
 ghost use Rattle.tq_shell.specs.Verdicts.{IsVerdict};
 

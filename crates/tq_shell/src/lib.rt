@@ -1,21 +1,21 @@
 //! What the program calls: the session of a shell, lines in, answers out; client scripts run in threads, from their text to the
 //! journals of all parts; the audit of a journal file, whether one sequential run explains it; its upgrade to the format that is
-//! written now; and, handed on, the words of the command line and the devices that they read and write.
+//! written now; lines that are answered over the journals of a file; and, handed on, the words of the command line and the
+//! devices that they read and write.
 //!
-//! Files: `session.rt` `run` over `receiver.rt`, pieces of input to lines; `threading.rt` over `reading.rt`, `running.rt`,
-//! `outcome.rt` client scripts in threads; `auditing.rt` over `reading.rt`, `judging.rt`, `audit_finding.rt` the audit; `upgrading.rt`
-//! the upgrade; `line.rt` a line that is written.
 //! Definitions: `specs/Session`, `SessionRun`, and `Stream`, the code's own word; `Running`, `Outcome`, `Threads`; `Verdicts`,
-//! `Texts`, `Report`, `Audit`, `Upgrade`, `Reading`.
+//! `Texts`, `Report`, `Audit`, `Upgrade`, `Rehearsal`, `Reading`.
 #![tactic(auto)]
 
 mod audit_finding;
 mod auditing;
 mod judging;
 mod line;
+mod opened;
 mod outcome;
 mod reading;
 mod receiver;
+mod rehearsing;
 mod running;
 mod session;
 mod threading;
@@ -24,6 +24,7 @@ mod upgrading;
 pub use audit_finding::AuditFinding;
 pub use auditing::audit;
 pub use outcome::Outcome;
+pub use rehearsing::rehearse;
 pub use running::run_text;
 pub use session::{INPUT_LIMIT, run};
 pub use threading::threads;

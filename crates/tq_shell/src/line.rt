@@ -1,3 +1,5 @@
+//! A line that is written.
+
 ghost use Rattle.std.specs.Prelude.{◌-◌, ◌^◌, ◌<◌};
 ghost use Rattle.tq_json_write.specs.Spilled.{IsWrittenOut};
 

@@ -1,3 +1,5 @@
+//! What comes of client scripts.
+
 ghost use Rattle.std.specs.Prelude.{◌≡◌, ◌-◌, ◌^◌, ◌<◌};
 ghost use Rattle.tq_json_write.specs.Spilled.{IsWrittenOut};
 ghost use Rattle.tq_shell.specs.Outcome as spec;

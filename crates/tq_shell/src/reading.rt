@@ -1,3 +1,5 @@
+//! A source read to its end, within a limit.
+
 ghost use Rattle.std.specs.Prelude.{◌≡◌, ◌-◌, ◌^◌, ◌<◌, ◌≤◌, ◌⊎◌, ℕ, List, IfOk, IfErr, IsTrue, OnOk, length};
 ghost use Rattle.std.specs.Io.KnownBytes.{Appends};
 ghost use Rattle.tq_shell.specs.Reading.{IsReadFault, IsSourceFault, file_limit};

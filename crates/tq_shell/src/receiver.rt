@@ -1,8 +1,10 @@
+//! Pieces of input to lines.
+
 use memchr::memchr;
 use std::alloc::Global;
 use std::marker::Model;
 use tq_interpreter::Shell;
-use tq_shape::{Levels, Memory};
+use tq_shape::Memory;
 use tq_syntax::{LINE_LIMIT, Line, without_return};
 
 /// How many bytes are kept of a line. With these it is too long, also if the last is a carriage return that is dropped.
@@ -35,12 +37,11 @@ impl Receiver {
     ghost use Rattle.tq_text.specs.Print.{Appends, Extends};
     ghost use Rattle.tq_shell.specs.Stream.{AnswersFront, IsTakenAtOnce, ReceivesFront, answer_to_last, ended_answer, with_piece, line_ended, nothing_received};
 
-    pub(crate) fn new(alloc: Global, levels: Levels) -> Result<Receiver, Memory>
-        ensures { IfOk result (λ receiver. receiver ≡ nothing_received levels) }
+    pub(crate) fn new(alloc: Global, shell: Shell) -> Receiver
+        ensures { result ≡ nothing_received shell }
     {
-        let shell = Shell::new(alloc, levels)?;
         let line = Vec::new(alloc);
-        Ok(Receiver { shell, line })
+        Receiver { shell, line }
     }
 
     /// Receives a piece, or its front up to the line with which there are enough answers to be written, and tells how many

@@ -1,3 +1,5 @@
+//! Client scripts run from their text to their journals.
+
 ghost use Rattle.std.specs.Prelude.{◌≤◌, IfOk, vec_len};
 ghost use Rattle.tq_shell.specs.Running.{IsOutcome, IsOutcomeOf};
 
@@ -46,7 +48,11 @@ fn run_scripts<R: Threads + Wait + Sync>(
     ensures { IfOk result (IsOutcomeOf levels workers scripts.items) }
 {
     let cluster = Cluster::new(alloc, levels, Limits::full(), OpenGate)?;
-    let Ran { callers, memory } = cluster.run_clients(rt, alloc, scripts, workers, rounds);
+    let Ran {
+        callers,
+        memory,
+        whole: _,
+    } = cluster.run_clients(rt, alloc, scripts, workers, rounds);
     if memory {
         return Err(AllocError);
     }

@@ -1,3 +1,5 @@
+//! The upgrade of a journal file.
+
 ghost use Rattle.std.specs.Prelude.{◌≡◌, ◌-◌, ◌^◌, ◌<◌, ℕ, List, IfOk, IsTrue, OnOk};
 ghost use Rattle.std.specs.Io.KnownBytes.{Appends};
 ghost use Rattle.tq_devices.specs.Faults.{IsRunCount};
@@ -45,7 +47,7 @@ pub fn upgrade<R: Source, W: Sink>(
 }
 
 /// The journals of the bytes of a journal file; none where they are no such file.
-fn found_in(alloc: Global, bytes: &[u8]) -> Result<Option<Journals>, Memory>
+pub(crate) fn found_in(alloc: Global, bytes: &[u8]) -> Result<Option<Journals>, Memory>
     ensures { IfOk result (IsFound bytes.now) }
 {
     match journals_from_json(alloc, bytes) {

@@ -1,3 +1,5 @@
+//! The copies that a server has.
+
 ghost use Rattle.std.specs.Prelude.{◌≡◌, ◌+◌, ◌<◌, ◌≤◌, OnOk, IfOk, IfSome, IsOk, nat_lt};
 ghost use Rattle.std.specs.FinMap as map;
 

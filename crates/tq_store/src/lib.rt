@@ -1,8 +1,5 @@
 //! Files: their names, their contents, and the copies that a server keeps of them.
 //!
-//! Files: `file_name.rt` names; `content.rt` contents; `write.rt` what a transaction writes to a file; `copies.rt` the
-//! copies of a server; `bounded.rt` a map whose look-ups are bounded, whoever chose the keys, and `ordered.rt` its form
-//! where the entries are many.
 //! Definitions: `specs/Names`, `Copies`; `Bounded` and `Lends` what contracts see of that map.
 #![tactic(auto)]
 

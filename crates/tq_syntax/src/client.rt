@@ -1,3 +1,5 @@
+//! A line of a text of client scripts.
+
 ghost use Rattle.std.specs.Prelude.{◌≡◌, IfOk};
 ghost use Rattle.tq_syntax.specs.ClientLine as spec;
 ghost use Rattle.tq_syntax.specs.Word.{options_now};

@@ -1,3 +1,5 @@
+//! Why a text gives no scripts.
+
 ghost use Rattle.std.specs.Prelude.{◌≡◌};
 ghost use Rattle.tq_syntax.specs.declared.fault.ScriptFault.TheVariants as variants;
 

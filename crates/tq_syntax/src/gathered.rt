@@ -1,3 +1,5 @@
+//! The scripts of the lines so far.
+
 ghost use Rattle.std.specs.Prelude.{◌≡◌, IfOk};
 ghost use Rattle.tq_syntax.specs.ClientLine.{client_line_of};
 ghost use Rattle.tq_syntax.specs.Gathering.{gathered_with, next_client, nothing_gathered, said_more, scripts_so_far};

@@ -1,8 +1,5 @@
 //! What the bytes of lines ask for, and the scripts that texts of clients' lines hold.
 //!
-//! Files: `line.rt` a line of the shell; `script.rt` what a client says; `client.rt` a line of a text of client scripts;
-//! `reader.rt` the scripts of a text, `gathered.rt` those so far, `fault.rt` why a text gives none; `operands.rt` what
-//! follows a verb; `word.rt` words and numbers.
 //! Definitions: `specs/Line`, `ClientLine`, `Operands`, `Word`; `Text` the lines of bytes, `Scripts` the scripts of lines.
 //! `Gathering` and `Gathered` are the code's own words.
 #![tactic(auto)]

@@ -1,3 +1,5 @@
+//! A line of the shell.
+
 ghost use Rattle.std.specs.Prelude.{◌≡◌, IfOk, unwrap_or};
 ghost use Rattle.tq_syntax.specs.Line as spec;
 ghost use Rattle.tq_syntax.specs.Word.{options_now};

@@ -1,3 +1,5 @@
+//! What follows a verb.
+
 ghost use Rattle.std.specs.Prelude.{◌≡◌, IfOk, option_map};
 ghost use Rattle.std.specs.List.{list_all};
 ghost use Rattle.tq_syntax.specs.Operands as spec;

@@ -1,3 +1,5 @@
+//! The scripts of a text.
+
 ghost use Rattle.std.specs.Prelude.{◌≤◌, length};
 ghost use Rattle.tq_syntax.specs.Scripts.{IsRead, lines_within, said_lines};
 

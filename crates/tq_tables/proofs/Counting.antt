@@ -1,6 +1,6 @@
 -- Commits counted one after another.
 use Rattle.std.specs.Prelude.{◌||◌, ◌&&◌, not}
-use Rattle.std.proofs.Common.{◌≡◌, ℕ, suc, ◌+◌, ◌≤◌, Bool, true, false, cond, List, [], ◌∷◌, ◌++◌, length, map, filter, Option, Some, None, is_some, add-zero, refl, ap, sym, subst, ◌∙◌, arith}
+use Rattle.std.proofs.Common.{◌≡◌, ℕ, suc, ◌+◌, ◌≤◌, Bool, true, false, cond, List, [], ◌∷◌, ◌++◌, length, map, filter, Option, Some, None, is_some, add-zero, refl, ap, sym, ◌∙◌, arith}
 use mathlib.Core.Bool.{true≢false}
 use Rattle.std.specs.Cmp.Lexicographic.{texts_ties}
 use Rattle.std.specs.FinMap as fin
@@ -285,9 +285,3 @@ commits-most (e ∷ earlier) = by e.ask e.reply (commits-most earlier)
     by (asks.Commit txn ops votes) (replies.Refused r) h = omega (arith, h)
     by asks.Begin reply h = omega (arith, h)
     by (asks.Resolve txn) reply h = omega (arith, h)
-
-pub counted-most : (journal : List DeskEntry) (name : List ℕ) → count_in (commit_counts (commits journal)) name ≤ length journal
-counted-most journal name =
-    let a = count-most name (commits journal) in
-    let b = commits-most journal in
-    subst (λ (k : ℕ). k ≤ length journal) (sym (count_in-counted (commits journal) name)) (omega (arith, a, b))

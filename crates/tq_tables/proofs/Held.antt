@@ -1,33 +1,31 @@
 -- The servers that may have a copy of a file with no row, as servers are asked and rows come.
 use Rattle.std.specs.Prelude.{◌||◌, ◌==◌, nat_lt, nat_le}
-use Rattle.std.proofs.Common.{◌≡◌, ℕ, ◌+◌, ◌<◌, ◌≤◌, Bool, true, false, cond, List, [], ◌∷◌, ◌++◌, length, map, set, take, get_or, Option, true≢false, refl, ap, sym, subst, ◌∙◌, arith}
+use Rattle.std.proofs.Common.{◌≡◌, ℕ, zero, suc, ◌+◌, ◌<◌, ◌≤◌, Bool, true, false, cond, List, [], ◌∷◌, length, map, set, take, get_or, replicate, Option, true≢false, refl, ap, sym, subst, ◌∙◌, arith}
 use Rattle.std.specs.Bool.{OnTrue}
 use Rattle.std.specs.FinMap.{get-empty}
 use Rattle.std.specs.List.{All}
 use Rattle.std.proofs.lemmas.Bool.{eqb-true}
 use Rattle.std.proofs.lemmas.List.{length-set, map-append}
-use Rattle.std.proofs.lemmas.List.Elements.{All-nil, All-cons, All-head, All-tail, All-set, All-push}
+use Rattle.std.proofs.lemmas.List.Elements.{All-nil, All-cons, All-head, All-tail, All-set}
 use Rattle.std.proofs.SliceLists.{all_by_recursion_push}
 use Rattle.tq_shape.specs.ServerSet.{Servers, has_number, with_number}
-use Rattle.tq_store.specs.Copies.{Files, copy_at, copy_of, name_cmp}
+use Rattle.tq_store.specs.Copies.{copy_at, copy_of, name_cmp}
 use Rattle.tq_store.specs.declared.write.Write.{Write}
 use Rattle.tq_store.specs.Names.{same_name}
 use Rattle.tq_store.specs.declared.copies.FileCopy.{FileCopy}
 use Rattle.tq_store.proofs.SameName.{same_name-is}
-use Rattle.tq_intents.specs.Kept.{kept_copies}
-use Rattle.tq_node.specs.Node.{IsKept, NodeView}
-use Rattle.tq_node.specs.Records.{NodeState, Records}
+use Rattle.tq_node.specs.Node.{NodeView}
 use Rattle.tq_tables.specs.declared.file_row.FileRow.{FileRow}
 use Rattle.tq_tables.specs.declared.holders.Holders.{Holders}
-use Rattle.tq_tables.specs.Early.{AreHolders, HaveRows, HoldEarly, has_row, held_by}
-use Rattle.tq_tables.specs.Files.{all_stood, names_in, put_in, stood_at, with_row, with_rows}
+use Rattle.tq_tables.specs.Early.{AreHolders, HaveRows, OthersLack, has_row, held_by}
+use Rattle.tq_tables.specs.Files.{all_stood, names_in, stood_at, with_row, with_rows}
 use Rattle.tq_tables.specs.NamesApart.{is_in}
-use Rattle.tq_tables.specs.Parts.{AreOfTree}
+use Rattle.tq_tables.specs.Parts.{AreOfTree, node_after_all, nodes_at}
 use Rattle.tq_tables.specs.Rows.{has_version, servers_where}
 use Rattle.tq_tables.proofs.Kept.{names-stood}
 use Rattle.tq_tables.proofs.Names.{or_parts}
 use Rattle.tq_tables.proofs.RowLaws.{at-place, take-next}
-use Rattle.tq_tables.proofs.Stood.{eq-above, eq-self, same-set, those}
+use Rattle.tq_tables.proofs.Stood.{eq-self, same-set, those}
 
 -- ---- numbers in a set
 
@@ -121,41 +119,23 @@ held-same {levels} {levels2} {nodes} {nodes2} {rows} {rows2} {holders} {holders2
     (subst (λ (x : List FileRow). AreHolders levels nodes x holders2) (sym c)
     (subst (λ (x : Holders). AreHolders levels nodes rows x) (sym d) are)))
 
-pub nothing : {X : Type 0} (xs : List X) → (length xs == 0) ≡ true → xs ≡ []
-nothing [] h = refl
-nothing (x ∷ xs) h = absurd (true≢false (sym h ∙ eq-above 0 (length (x ∷ xs)) (omega arith)))
+-- servers that were asked nothing have no copy
+lack-copies : (levels first count : ℕ) (file : List ℕ) → OthersLack file [] (nodes_at levels first (replicate count []))
+lack-copies levels first zero file = All-nil (λ (node : NodeView). has_number [] node.server ≡ false → has_version file 1 node ≡ false)
+lack-copies levels first (suc count) file =
+    All-cons (λ (node : NodeView). has_number [] node.server ≡ false → has_version file 1 node ≡ false) (node_after_all levels first []) (nodes_at levels (first + 1) (replicate count []))
+    (λ out. ap (λ (copy : Option FileCopy). nat_le 1 (copy_at copy).version) (get-empty name_cmp file)) (lack-copies levels (first + 1) count file)
 
--- a server that has stored nothing has no copy
-pub stored-nothing : (state : NodeState) → IsKept state → state.stable ≡ [] → (file : List ℕ) → nat_le 1 (copy_of state.records.copies file).version ≡ false
-stored-nothing state kept none file =
-    ap (λ (files : Files). nat_le 1 (copy_of files file).version) (sym (ap (λ (r : Records). r.copies) kept) ∙ ap kept_copies none)
-    ∙ ap (λ (copy : Option FileCopy). nat_le 1 (copy_at copy).version) (get-empty name_cmp file)
-
--- one server more
-pub early-next : (levels count : ℕ) (nodes : List NodeView) (i : ℕ) (node : NodeView) → i < length nodes → node ≡ get_or nodes i node → node.server ≤ count → (early : Servers) (stored : Bool)
-    → (stored ≡ false → (file : List ℕ) → has_version file 1 node ≡ false) → HoldEarly levels count (take i nodes) early
-    → HoldEarly levels count (take (i + 1) nodes) (cond stored (put_in node.server early) early)
-early-next levels count nodes i node less is fits early stored lacks held =
-    subst (λ (list : List NodeView). HoldEarly levels count list (cond stored (put_in node.server early) early)) (sym (take-next nodes i node less is)) (by stored lacks)
-  where
-    by : (b : Bool) → (b ≡ false → (file : List ℕ) → has_version file 1 node ≡ false) → HoldEarly levels count (take i nodes ++ node ∷ []) (cond b (put_in node.server early) early)
-    by true lack =
-        record {
-          levels_are = held.levels_are;
-          within = All-with (λ (k : ℕ). k ≤ count) node.server early.numbers fits held.within;
-          others = λ file.
-              let P : NodeView → Type 0 = λ n. has_number (with_number node.server early.numbers) n.server ≡ false → has_version file 1 n ≡ false in
-              let before = held.others file in
-              All-push P (take i nodes) node (λ k d h out. before k d h (lacks-before node.server (get_or (take i nodes) k d).server early.numbers out).1)
-              (λ out. absurd (true≢false (sym (has-itself node.server early.numbers) ∙ out)));
-        }
-    by false lack =
-        record {
-          levels_are = held.levels_are;
-          within = held.within;
-          others = λ file.
-              All-push (λ (n : NodeView). has_number early.numbers n.server ≡ false → has_version file 1 n ≡ false) (take i nodes) node (held.others file) (λ out. lack refl file);
-        }
+pub none-held : (levels count : ℕ) (nodes : List NodeView) (early all : Servers) → nodes ≡ nodes_at levels 1 (replicate count []) → early ≡ record { levels = levels; numbers = [] }
+    → all ≡ servers_where levels (λ node. true) nodes → AreHolders levels nodes [] (record { early = early; all = all })
+none-held levels count nodes early all are none whole =
+    record {
+      levels_are = ap (λ (s : Servers). s.levels) none;
+      within = subst (λ (s : Servers). All (λ number. number ≤ length nodes) s.numbers) (sym none) (All-nil (λ (number : ℕ). number ≤ length nodes));
+      all = whole;
+      others = λ file missing.
+          subst (λ (s : Servers). OthersLack file s.numbers nodes) (sym none) (subst (OthersLack file []) (sym are) (lack-copies levels 1 count file));
+    }
 
 -- rows come
 pub held-put : (levels : ℕ) (nodes : List NodeView) (rows more : List FileRow) (holders : Holders) → AreHolders levels nodes rows holders → AreHolders levels nodes (with_rows rows more) holders

@@ -12,3 +12,4 @@ pub mod Restood
 pub mod Held
 pub mod Settled
 pub mod Beside
+pub mod Again

@@ -1,7 +1,7 @@
 -- The parts as their journals leave them, one entry after another.
 use Rattle.std.specs.Prelude.{reverse}
-use Rattle.std.proofs.Common.{◌≡◌, ◌≤◌, ◌<◌, ◌+◌, ℕ, suc, List, [], ◌∷◌, ◌++◌, length, map, take, get_or, Option, Some, None, refl, sym, ap, subst, ◌∙◌, arith, length-take-le}
-use Rattle.std.proofs.lemmas.List.{length_push, length-map, map-append}
+use Rattle.std.proofs.Common.{◌≡◌, ◌≤◌, ◌<◌, ◌+◌, ℕ, suc, List, [], ◌∷◌, ◌++◌, length, take, get_or, Option, Some, None, refl, sym, ap, subst, ◌∙◌, arith, length-take-le}
+use Rattle.std.proofs.lemmas.List.{length_push}
 use Rattle.tq_shape.specs.Limits.{LimitsView}
 use Rattle.tq_shape.specs.Journal.{state_from}
 use Rattle.tq_shape.proofs.Joined.{state-push, state-reverse}
@@ -14,13 +14,12 @@ use Rattle.tq_desk.specs.declared.ask.DeskRefusal.{DeskRefusal}
 use Rattle.tq_desk.specs.DeskStep.{DeskView, desk_reply, desk_after, desk_refusal, desk_answered}
 use Rattle.tq_shape.specs.Steps.{state_at}
 use Rattle.tq_desk.specs.DeskStep as desk
-use Rattle.tq_desk.specs.DeskJournal.{DeskBounds, IsLegalDesk, desk_state, step_reply, step_after, DeskEntry}
-use Rattle.tq_desk.proofs.DecisionLog.{desk_keeps}
+use Rattle.tq_desk.specs.DeskJournal.{desk_state, step_reply, step_after, DeskEntry}
 use Rattle.tq_live.specs.Live.{Live}
 use Rattle.tq_live.specs.View.{view_after, view_reply_at, view_after_at, view_state}
-use Rattle.tq_tables.specs.Journals.{JournalsView, ViewEntry}
+use Rattle.tq_tables.specs.Journals.{ViewEntry}
 use Rattle.tq_node.specs.NodeJournal.{NodeEntry}
-use Rattle.tq_tables.specs.Parts.{PartsView, parts_of, node_at, desk_at, node_after_all, nodes_at, AreOfTree, bounds_of}
+use Rattle.tq_tables.specs.Parts.{node_at, desk_at, node_after_all, nodes_at, AreOfTree, bounds_of}
 use Rattle.tq_tables.proofs.RowLaws.{take-next}
 
 -- ---- servers
@@ -58,16 +57,6 @@ module _ (levels server : ℕ) (entries : List NodeEntry) (i : ℕ) (e : NodeEnt
       ∙ answered-push levels server (take i entries) e
       ∙ ap (node_after_all levels server) (sym (take-next entries i e less is))
 
-pub nodes-next : {A : Type 0} (items : A → List NodeEntry) (levels : ℕ) (servers : List A) (i : ℕ) (entries : A) → i < length servers → entries ≡ get_or servers i entries
-    → (nodes after : List NodeView) (n : NodeView) (number : ℕ) → nodes ≡ nodes_at levels 1 (map items (take i servers)) → number ≡ i + 1
-    → n ≡ node_after_all levels number (items entries) → after ≡ nodes ++ n ∷ [] → after ≡ nodes_at levels 1 (map items (take (i + 1) servers))
-nodes-next items levels servers i entries less is nodes after n number so_far count stands push =
-    let place : number ≡ 1 + length (map items (take i servers)) = let l = length-map (take i servers) items ∙ length-take-le i servers (omega (arith, less)) in omega (arith, count, l) in
-    push
-    ∙ (λ j. so_far j ++ (stands ∙ ap (λ (k : ℕ). node_after_all levels k (items entries)) place) j ∷ [])
-    ∙ sym (nodes_at-push levels 1 (map items (take i servers)) (items entries))
-    ∙ ap (nodes_at levels 1) (sym (map-append items (take i servers) (entries ∷ [])) ∙ ap (map items) (sym (take-next servers i entries less is)))
-
 -- ---- the desk
 
 begun_step : (refused : Option DeskRefusal) (old : DeskView) (ask : DeskAsk) → (state_at refused old (desk_answered old ask)).begun ≤ old.begun + 1
@@ -104,14 +93,6 @@ desk-room levels limits entries i old most so_far =
 pub desk_at-is : (levels : ℕ) (limits : LimitsView) (entries : List DeskEntry) → desk_at levels limits entries ≡ desk_state (bounds_of levels limits) (reverse entries)
 desk_at-is levels limits entries = state-reverse step_reply step_after (desk.opening_desk levels limits) entries
 
--- it is still that of these bounds
-pub desk-bounds : (levels : ℕ) (limits : LimitsView) (entries : List DeskEntry) (d : DeskView) → IsLegalDesk (bounds_of levels limits) (reverse entries) → d ≡ desk_at levels limits entries
-    → bounds_of levels limits ≡ bounds_of d.levels d.limits
-desk-bounds levels limits entries d legal stands =
-    let keeps = desk_keeps (bounds_of levels limits) (reverse entries) legal in
-    let same = stands ∙ desk_at-is levels limits entries in
-    λ i. record { levels = (sym (ap (λ (v : DeskView). v.levels) same ∙ keeps.levels)) i; limits = (sym (ap (λ (v : DeskView). v.limits) same ∙ keeps.limits)) i }
-
 -- ---- the view
 
 -- the view after these entries
@@ -127,20 +108,3 @@ pub of_tree-at : (levels : ℕ) (servers : List (List NodeEntry)) (nodes : List 
 of_tree-at levels servers nodes l are is =
     subst (λ (n : List NodeView). AreOfTree l 1 n) (sym are)
     (subst (λ (k : ℕ). AreOfTree k 1 (nodes_at levels 1 servers)) (sym is) (AreOfTree-nodes_at levels 1 servers))
-
--- ---- the desk of parts that stand as legal journals leave them
-
-module _ (journals : JournalsView) (legal : IsLegalDesk (bounds_of journals.levels journals.limits) (reverse journals.desk)) (parts : PartsView) (entries : List DeskEntry) (stand : parts ≡ parts_of journals) (are : entries ≡ journals.desk) where
-  desk_is : parts.desk ≡ desk_at journals.levels journals.limits journals.desk
-  desk_is = ap (λ (p : PartsView). p.desk) stand
-
-  bounds_are : bounds_of journals.levels journals.limits ≡ bounds_of parts.desk.levels parts.desk.limits
-  bounds_are = desk-bounds journals.levels journals.limits journals.desk parts.desk legal desk_is
-
-  pub parts-legal : IsLegalDesk (bounds_of parts.desk.levels parts.desk.limits) (reverse entries)
-  parts-legal =
-      subst (λ (es : List DeskEntry). IsLegalDesk (bounds_of parts.desk.levels parts.desk.limits) (reverse es)) (sym are)
-      (subst (λ (bounds : DeskBounds). IsLegalDesk bounds (reverse journals.desk)) bounds_are legal)
-
-  pub parts-stand : parts.desk ≡ desk_state (bounds_of parts.desk.levels parts.desk.limits) (reverse entries)
-  parts-stand = desk_is ∙ desk_at-is journals.levels journals.limits journals.desk ∙ (λ i. desk_state (bounds_are i) (reverse (sym are i)))

@@ -1,14 +1,11 @@
 -- Rows as they are gathered, one after another.
-use Rattle.std.specs.Prelude.{reverse}
-use Rattle.std.proofs.Common.{◌≡◌, ℕ, zero, suc, ◌+◌, ◌≤◌, ◌<◌, Bool, true, false, cond, List, [], ◌∷◌, ◌++◌, length, map, filter, take, get_or, ap, sym, subst, ◌∙◌, arith}
+use Rattle.std.proofs.Common.{◌≡◌, ℕ, zero, suc, ◌+◌, ◌≤◌, ◌<◌, Bool, true, cond, List, [], ◌∷◌, ◌++◌, length, map, filter, take, get_or, ap, sym, subst, ◌∙◌, arith}
 use mathlib.Core.List.{map-map}
 use Rattle.std.specs.List.{All}
-use Rattle.std.proofs.lemmas.List.{append-nil, get_or-take, get_or_default, length-take, map-append, take_more}
+use Rattle.std.proofs.lemmas.List.{get_or-take, get_or_default, length-take, map-append, take_more}
 use Rattle.std.proofs.lemmas.List.Elements.{All-filter, All-map, filter-append}
 use Rattle.tq_shape.specs.ServerSet.{Servers}
 use Rattle.tq_shape.specs.Tree.{Server}
-use Rattle.tq_shape.proofs.Joined.{reverse-push}
-use Rattle.tq_desk.specs.DeskJournal.{commits, with_commit, DeskEntry}
 use Rattle.tq_live.specs.View.{upwards}
 use Rattle.tq_node.specs.Node.{NodeView}
 use Rattle.tq_tables.specs.Parts.{AreOfTree}
@@ -32,11 +29,6 @@ upwards-push first count = ap (upwards first) (one count) ∙ by first count
     by first (suc count) = ap (λ rest. first ∷ rest) (by (first + 1) count ∙ ap (λ (n : ℕ). upwards (first + 1) count ++ n ∷ []) (omega arith))
 
 -- ---- files
-
--- the commits with one entry more
-pub commits-next : (entries : List DeskEntry) (i : ℕ) (e : DeskEntry) → i < length entries → e ≡ get_or entries i e
-    → with_commit e.ask e.reply (commits (reverse (take i entries))) ≡ commits (reverse (take (i + 1) entries))
-commits-next entries i e less is = ap commits (sym (ap reverse (take-next entries i e less is) ∙ reverse-push (take i entries) e))
 
 -- a server of a tree stands at its place
 pub at-place : (levels first : ℕ) (nodes : List NodeView) → AreOfTree levels first nodes → (i : ℕ) (node : NodeView) → i < length nodes → node ≡ get_or nodes i node
@@ -63,24 +55,14 @@ below-place levels first bound test nodes of_tree i within =
         let place = (at-place levels first nodes of_tree k node there (get_or-take i nodes k d here ∙ get_or_default nodes k d node there)).1 in
         omega (arith, place, here, within)
 
-servers_where-cases : (levels : ℕ) (test : NodeView → Bool) (nodes : List NodeView) (i : ℕ) (node : NodeView) → i < length nodes → node ≡ get_or nodes i node → (b : Bool) → test node ≡ b
-    → servers_where levels test (take (i + 1) nodes) ≡ record { levels = levels; numbers = map (λ n. n.server) (filter test (take i nodes)) ++ map (λ n. n.server) (cond b (node ∷ []) []) }
-servers_where-cases levels test nodes i node less is b passes =
+-- one server more that passes
+servers_where-in : (levels : ℕ) (test : NodeView → Bool) (nodes : List NodeView) (i : ℕ) (node : NodeView) → i < length nodes → node ≡ get_or nodes i node → test node ≡ true
+    → servers_where levels test (take (i + 1) nodes) ≡ record { levels = levels; numbers = map (λ n. n.server) (filter test (take i nodes)) ++ node.server ∷ [] }
+servers_where-in levels test nodes i node less is passes =
     ap (servers_where levels test) (take-next nodes i node less is)
     ∙ ap (λ (list : List NodeView). let s : Servers = record { levels = levels; numbers = map (λ n. n.server) list } in s)
     (filter-append test (take i nodes) (node ∷ []) ∙ ap (λ c. filter test (take i nodes) ++ cond c (node ∷ []) []) passes)
-    ∙ ap (λ (list : List ℕ). let s : Servers = record { levels = levels; numbers = list } in s) (map-append (λ n. n.server) (filter test (take i nodes)) (cond b (node ∷ []) []))
-
--- one server more that passes, or that does not
-pub servers_where-in : (levels : ℕ) (test : NodeView → Bool) (nodes : List NodeView) (i : ℕ) (node : NodeView) → i < length nodes → node ≡ get_or nodes i node → test node ≡ true
-    → servers_where levels test (take (i + 1) nodes) ≡ record { levels = levels; numbers = map (λ n. n.server) (filter test (take i nodes)) ++ node.server ∷ [] }
-servers_where-in levels test nodes i node less is passes = servers_where-cases levels test nodes i node less is true passes
-
-pub servers_where-out : (levels : ℕ) (test : NodeView → Bool) (nodes : List NodeView) (i : ℕ) (node : NodeView) → i < length nodes → node ≡ get_or nodes i node → test node ≡ false
-    → servers_where levels test (take (i + 1) nodes) ≡ servers_where levels test (take i nodes)
-servers_where-out levels test nodes i node less is fails =
-    servers_where-cases levels test nodes i node less is false fails
-    ∙ ap (λ (list : List ℕ). let s : Servers = record { levels = levels; numbers = list } in s) (append-nil (map (λ n. n.server) (filter test (take i nodes))))
+    ∙ ap (λ (list : List ℕ). let s : Servers = record { levels = levels; numbers = list } in s) (map-append (λ n. n.server) (filter test (take i nodes)) (node ∷ []))
 
 -- a set of servers, as one more is put in
 module _ (levels : ℕ) (test : NodeView → Bool) (nodes : List NodeView) (i : ℕ) (node : NodeView) (less : i < length nodes) (is : node ≡ get_or nodes i node) (old new : Servers) (so_far : old ≡ servers_where levels test (take i nodes)) where
@@ -95,9 +77,6 @@ module _ (levels : ℕ) (test : NodeView → Bool) (nodes : List NodeView) (i : 
       put below
       ∙ (λ j. record { levels = (so_far j).levels; numbers = (so_far j).numbers ++ same j ∷ [] })
       ∙ sym (servers_where-in levels test nodes i node less is passes)
-
-  pub none-in : test node ≡ false → new ≡ old → new ≡ servers_where levels test (take (i + 1) nodes)
-  none-in fails stays = stays ∙ so_far ∙ sym (servers_where-out levels test nodes i node less is fails)
 
 -- the rows of files that are counted
 pub rows-counted : (levels : ℕ) (nodes : List NodeView) (n : List ℕ → ℕ) (files : List (List ℕ))

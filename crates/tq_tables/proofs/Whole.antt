@@ -1,29 +1,26 @@
 -- The tables as a whole.
-use Rattle.std.specs.Prelude.{reverse}
-use Rattle.std.proofs.Common.{◌≡◌, ◌+◌, ◌-◌, ◌^◌, ◌<◌, ℕ, zero, suc, cond, slice_index_or, ◌&&◌, List, length, map, refl, ap, sym, subst, ◌∙◌, arith, nat_le}
-use mathlib.Core.List.{map-map}
+use Rattle.std.proofs.Common.{◌≡◌, ◌+◌, ◌-◌, ◌^◌, ◌<◌, ℕ, zero, suc, cond, slice_index_or, ◌&&◌, List, [], length, map, refl, ap, ◌∙◌, arith, nat_le}
 use Rattle.std.specs.FinMap as fin
-use Rattle.std.proofs.lemmas.List.{length-map, map-id}
+use Rattle.std.proofs.lemmas.List.{length-map}
 use Rattle.std.proofs.lemmas.List.Elements.{All-map}
 use Rattle.std.proofs.lemmas.Nat.{pow_pos}
 use Rattle.tq_desk.specs.DeskStep.{DeskView}
-use Rattle.tq_desk.specs.DeskJournal.{Commit, commits, DeskBounds, DeskEntry, IsLegalDesk, desk_state}
+use Rattle.tq_desk.specs.DeskJournal.{Commit, DeskBounds, DeskEntry, IsLegalDesk, desk_state}
 use Rattle.tq_desk.proofs.DecisionLog.{desk_keeps}
 use Rattle.tq_live.specs.Live.{Live}
 use Rattle.tq_live.specs.View.{upwards}
 use Rattle.tq_live.specs.declared.purpose.Purpose.{Purpose}
 use Rattle.tq_live.specs.declared.purpose.Purpose.TheVariants as purposes
 use Rattle.tq_node.specs.Node.{NodeView}
-use Rattle.tq_tables.specs.declared.intent_row.IntentState.{IntentState}
 use Rattle.tq_tables.specs.declared.intent_row.IntentState.TheVariants.{Unknown}
 use Rattle.tq_tables.specs.declared.file_row.FileRow.{FileRow}
 use Rattle.tq_tables.specs.DeskStates.{intent_state_at}
-use Rattle.tq_tables.specs.Parts.{PartsView, bounds_of}
-use Rattle.tq_tables.specs.Tables.{tables_at, tables_over}
-use Rattle.tq_tables.specs.Files.{AreExact, AreOfLevels, IsOfLevels, names_in}
-use Rattle.tq_tables.specs.NamesApart.{Apart}
-use Rattle.tq_tables.proofs.Counting.{Apart-files_in}
-use Rattle.tq_tables.specs.Rows.{file_row, file_rows, files_in, intent_rows, intent_state, least_for, least_in, least_row, no_quorums, quorum_row, quorum_rows, row_at, state_by}
+use Rattle.tq_shape.specs.Limits.{LimitsView}
+use Rattle.tq_tables.specs.Journals.{no_entries}
+use Rattle.tq_tables.specs.Parts.{PartsView, bounds_of, desk_at, parts_of}
+use Rattle.tq_tables.specs.Tables.{tables_at, tables_of}
+use Rattle.tq_tables.specs.Files.{AreExact}
+use Rattle.tq_tables.specs.Rows.{file_row, intent_rows, intent_state, least_for, least_in, least_row, no_quorums, quorum_row, quorum_rows, row_at, state_by}
 
 length-upwards : (first count : ℕ) → length (upwards first count) ≡ count
 length-upwards first zero = refl
@@ -54,21 +51,9 @@ least_in_rows live purpose server first within =
     for_of purposes.Read = refl
     for_of purposes.Write = refl
 
--- the sets of a file's row are of the tree
-pub of_tree-rows : (levels : ℕ) (nodes : List NodeView) (list : List Commit) (files : List (List ℕ))
-    → AreOfLevels levels (map (file_row levels nodes list) files)
-of_tree-rows levels nodes list files = All-map (IsOfLevels levels) (file_row levels nodes list) files (λ k d h. (refl, refl))
-
 -- each says what the servers' copies of its file do
 pub exact-rows : (levels : ℕ) (nodes : List NodeView) (list : List Commit) (files : List (List ℕ)) → AreExact levels nodes (map (file_row levels nodes list) files)
 exact-rows levels nodes list files = All-map (λ (row : FileRow). row ≡ row_at levels nodes row.file row.version) (file_row levels nodes list) files (λ k d h. refl)
-
--- each has a row of its own
-names-rows : (levels : ℕ) (nodes : List NodeView) (list : List Commit) (files : List (List ℕ)) → names_in (map (file_row levels nodes list) files) ≡ files
-names-rows levels nodes list files = map-map (λ (row : FileRow). row.file) (file_row levels nodes list) files ∙ map-id files
-
-pub apart-rows : (levels : ℕ) (nodes : List NodeView) (list : List Commit) → Apart (names_in (file_rows levels nodes list))
-apart-rows levels nodes list = subst Apart (sym (names-rows levels nodes list (files_in list))) (Apart-files_in list)
 
 -- what a desk keeps says of a vote what its log does
 pub states-same : (bounds : DeskBounds) (journal : List DeskEntry) (desk : DeskView) → IsLegalDesk bounds journal → desk ≡ desk_state bounds journal → intent_state_at desk ≡ intent_state journal
@@ -78,11 +63,9 @@ states-same bounds journal desk legal stands =
     λ i server txn number.
     cond (nat_le 1 txn && nat_le txn (begun_is i)) (state_by ((ap (λ (d : DeskView). fin.get d.finals txn) stands ∙ keeps.finals txn) i) server number) Unknown
 
--- the tables over parts, whose rows of files are those of the commits
-pub over-is : (parts : PartsView) (entries : List DeskEntry) (files : List FileRow) → files ≡ file_rows parts.view.levels parts.nodes (commits (reverse entries))
-    → IsLegalDesk (bounds_of parts.desk.levels parts.desk.limits) (reverse entries) → parts.desk ≡ desk_state (bounds_of parts.desk.levels parts.desk.limits) (reverse entries)
-    → tables_at parts files ≡ tables_over parts entries
-over-is parts entries files f legal stands =
-    let states = states-same (bounds_of parts.desk.levels parts.desk.limits) (reverse entries) parts.desk legal stands in
-    let intents_are = ap (λ (state : ℕ → ℕ → ℕ → IntentState). intent_rows state parts.nodes) states in
-    λ i. record (tables_over parts entries) { files = f i; intentions = intents_are i }
+-- the tables of a system that was asked nothing
+pub empty-is : (levels : ℕ) (limits : LimitsView) (parts : PartsView) (rows : List FileRow) → parts ≡ parts_of (no_entries levels limits) → rows ≡ [] → tables_at parts rows ≡ tables_of (no_entries levels limits)
+empty-is levels limits parts rows are none =
+    let states = states-same (bounds_of levels limits) [] (desk_at levels limits []) tt refl in
+    (λ i. tables_at (are i) (none i))
+    ∙ (λ i. record (tables_of (no_entries levels limits)) { intentions = intent_rows (states i) (parts_of (no_entries levels limits)).nodes })

@@ -1,5 +1,5 @@
 -- How many commits write each file, as it is counted one commit after another.
-use Rattle.std.specs.Prelude.{◌==◌, ◌+◌, ℕ, List, map, fold, reverse}
+use Rattle.std.specs.Prelude.{◌==◌, ◌+◌, ℕ, List, map, fold}
 use Rattle.std.specs.Cmp.Lexicographic.{pointwise}
 use Rattle.std.specs.FinMap as fin
 use Rattle.std.specs.Map.{lookup}
@@ -7,7 +7,7 @@ use Rattle.std.specs.Option.{unwrap_or}
 use Rattle.indexmap.specs.IndexMap.{insert_entry}
 use Rattle.tq_evidence.specs.declared.op.Op.{Op}
 use Rattle.tq_desk.specs.DeskStep.{with_files}
-use Rattle.tq_desk.specs.DeskJournal.{Commit, DeskEntry, commits, count}
+use Rattle.tq_desk.specs.DeskJournal.{Commit, commits, count}
 use Rattle.tq_tables.specs.Rows.{files_in}
 use Rattle.tq_tables.specs.declared.file_row.FileRow.{FileRow}
 
@@ -18,10 +18,6 @@ names_of ops = fin.keys (with_files fin.empty ops)
 -- the files that the commits write, each with the number of those that do
 abbrev pub commit_counts : List Commit → List (List ℕ × ℕ)
 commit_counts commits = map (λ file. (file, count file commits)) (files_in commits)
-
--- those of the commits among entries of the desk, the oldest first
-abbrev pub counted_after : List DeskEntry → List (List ℕ × ℕ)
-counted_after entries = commit_counts (commits (reverse entries))
 
 -- the number that a file has among these, 0 where it is not among them
 abbrev pub count_in : List (List ℕ × ℕ) → List ℕ → ℕ

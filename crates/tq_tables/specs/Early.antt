@@ -1,7 +1,7 @@
 -- The servers that may have a copy of a file before a commit of it is followed, so that it has no row.
 use Rattle.std.specs.Prelude.{◌≡◌, ◌≤◌, ℕ, Bool, true, false, List, length}
 use Rattle.std.specs.List.{All, AllByRecursion}
-use Rattle.tq_shape.specs.ServerSet.{Servers, has_number}
+use Rattle.tq_shape.specs.ServerSet.{has_number}
 use Rattle.tq_node.specs.Node.{NodeView}
 use Rattle.tq_tables.specs.Files.{names_in, put_in}
 use Rattle.tq_tables.specs.NamesApart.{is_in}
@@ -21,22 +21,12 @@ HaveRows rows files = AllByRecursion (λ file. has_row rows file ≡ true) files
 abbrev pub OthersLack : List ℕ → List ℕ → List NodeView → Type 0
 OthersLack file numbers nodes = All (λ node. has_number numbers node.server ≡ false → has_version file 1 node ≡ false) nodes
 
--- a set of servers up to that number, of which is each of these servers that has a copy of any file
-pub record HoldEarly (levels count : ℕ) (nodes : List NodeView) (early : Servers) : Type 0 where
-  pub levels_are : early.levels ≡ levels
-  pub within : All (λ number. number ≤ count) early.numbers
-  pub others : (file : List ℕ) → OthersLack file early.numbers nodes
-
 -- all servers, and some, of which is each that has a copy of a file with no row
 pub record AreHolders (levels : ℕ) (nodes : List NodeView) (rows : List FileRow) (holders : Holders) : Type 0 where
   pub levels_are : holders.early.levels ≡ levels
   pub within : All (λ number. number ≤ length nodes) holders.early.numbers
   pub all : holders.all ≡ servers_where levels (λ node. true) nodes
   pub others : (file : List ℕ) → has_row rows file ≡ false → OthersLack file holders.early.numbers nodes
-
--- that whatever rows there are
-abbrev pub HoldForAnyRows : ℕ → List NodeView → Holders → Type 0
-HoldForAnyRows levels nodes holders = (rows : List FileRow) → AreHolders levels nodes rows holders
 
 -- those after copies of files rose at a server; whether each of the files has a row
 abbrev pub held_by : Bool → ℕ → Holders → Holders

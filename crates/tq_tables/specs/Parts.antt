@@ -14,7 +14,7 @@ use Rattle.tq_desk.specs.DeskStep.{DeskView, desk_after}
 use Rattle.tq_desk.specs.DeskStep as desk
 use Rattle.tq_desk.specs.Views.{desk_code}
 use Rattle.tq_desk.specs.DeskChanges.{desk_changed}
-use Rattle.tq_desk.specs.DeskJournal.{DeskBounds, IsLegalDesk, DeskEntry, desk_state}
+use Rattle.tq_desk.specs.DeskJournal.{DeskBounds, IsLegalDesk, DeskEntry}
 use Rattle.tq_desk.specs.declared.change.DeskChange.{DeskChange}
 use Rattle.tq_live.specs.Live.{Live}
 use Rattle.tq_live.specs.Costs.{costs_code}
@@ -80,15 +80,6 @@ pub record AreLegal (journals : JournalsView) : Type 0 where
   pub view : IsLegalView journals.levels journals.view
 
 -- ---- one part further
-
--- the server after the entries, one that has stored nothing before
-abbrev pub server_of_entries : NodeView → List NodeEntry → NodeView
-server_of_entries node entries = node_after_all node.levels node.server entries
-
--- the desk stands as a legal journal with these entries, the oldest first, leaves it
-pub record StandsAfter (desk : DeskView) (entries : List DeskEntry) : Type 0 where
-  pub legal : IsLegalDesk (bounds_of desk.levels desk.limits) (reverse entries)
-  pub stands : desk ≡ desk_state (bounds_of desk.levels desk.limits) (reverse entries)
 
 -- the parts after a change of the desk, and after an ask of the view
 abbrev pub with_change : PartsView → DeskChange → PartsView

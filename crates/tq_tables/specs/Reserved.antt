@@ -1,5 +1,5 @@
--- What is reserved of the tables: an entry that a note takes with no memory.
-use Rattle.std.specs.Prelude.{◌≡◌, ℕ, Option, Some, None, ⊤}
+-- What the tables follow, and what is reserved beside it: an entry that a note takes with no memory.
+use Rattle.std.specs.Prelude.{◌≡◌, ℕ, Option, Some, None, IfSome, ⊤}
 use Rattle.std.specs.Global.{Box}
 use Rattle.std.specs.Option.{option_map}
 use Rattle.tq_shape.specs.declared.part.Part.{Part}
@@ -10,8 +10,22 @@ use Rattle.tq_tables.specs.declared.ready_entry.PartAsk.{PartAsk}
 use Rattle.tq_tables.specs.declared.ready_entry.PartAsk.TheVariants as asks
 use Rattle.tq_tables.specs.declared.ready_entry.ReadyEntry.{ReadyEntry}
 use Rattle.tq_tables.specs.Asked.{FollowsDesk, FollowsNode, FollowsView}
-use Rattle.tq_tables.specs.Tables.{TablesView}
+use Rattle.tq_tables.specs.Early.{AreHolders}
+use Rattle.tq_tables.specs.Tables.{TablesView, tables_at}
+use Rattle.tq_tables.specs.declared.followed.Followed.{Followed}
 use Rattle.tq_tables.specs.declared.ready.Ready.{Ready}
+
+-- what is followed, as tables beside which nothing is reserved
+abbrev pub tables_in : Followed → TablesView
+tables_in followed = tables_at followed.parts.value followed.files.value.rows
+
+-- its parts and rows are of one tree, and each server with a copy of a file with no row is one of the holders
+abbrev pub AreFollowed : Followed → Type 0
+AreFollowed followed = (followed.parts.value.view.levels ≡ followed.files.value.levels) × AreHolders followed.files.value.levels followed.parts.value.nodes followed.files.value.rows followed.holders.value
+
+-- the copy shows the same, and holds together if that does of which it is a copy
+abbrev pub AreCopied : Followed → Followed → Type 0
+AreCopied old copy = (tables_in copy ≡ tables_in old) × (AreFollowed old → AreFollowed copy)
 
 -- what the entry asks
 abbrev pub ask_of : PartEntry → PartAsk
@@ -26,10 +40,6 @@ ready_entry part number e = record { part = part; number = number; ask = ask_of 
 -- the entry that is reserved, where one is
 abbrev pub reserved_entry : Option (Box Ready) → Option ReadyEntry
 reserved_entry ready = option_map (λ ready. ready.value.entry) ready
-
--- what is reserved, where anything is
-abbrev pub reserve_in : Option (Box Ready) → Option Ready
-reserve_in ready = option_map (λ ready. ready.value) ready
 
 -- the entry of that part, of that number, is reserved: a note of it takes no memory
 abbrev pub IsReadyFor : TablesView → Part → ℕ → PartEntry → Type 0
@@ -49,7 +59,11 @@ LeadsTo old new parts.Desk (asks.Desk ask) = FollowsDesk old new ask
 LeadsTo old new parts.View (asks.View ask) = FollowsView old new ask
 LeadsTo old new _ _ = ⊤
 
--- the tables beside which the entry is reserved, and those that follow it: nothing is reserved beside the latter
-pub record AreReady (old new : TablesView) (ready : ReadyEntry) : Type 0 where
-  pub leads : LeadsTo old new ready.part ready.ask
-  pub none : new.ready ≡ None
+-- what is reserved beside these tables follows them by the entry that is reserved
+pub record AreReady (old : TablesView) (ready : Ready) : Type 0 where
+  pub followed : AreFollowed ready.after
+  pub leads : LeadsTo old (tables_in ready.after) ready.entry.part ready.entry.ask
+
+-- where anything is
+abbrev pub IsReserve : TablesView → Option (Box Ready) → Type 0
+IsReserve old ready = IfSome ready (λ ready. AreReady old ready.value)

@@ -1,5 +1,5 @@
 -- The rows of the tables, over the raw records of the servers, the costs and marks, and the log of the desk.
-use Rattle.std.specs.Prelude.{ℕ, ◌-◌, ◌^◌, Bool, not, cond, nat_le, List, [], ◌∷◌, ◌++◌, map, filter, Option, Some, None, reverse, slice_index_or, sum_by}
+use Rattle.std.specs.Prelude.{ℕ, ◌-◌, ◌^◌, Bool, not, cond, nat_le, List, [], ◌∷◌, ◌++◌, map, filter, Option, Some, None, slice_index_or, sum_by}
 use Rattle.std.specs.FinMap as fin
 use Rattle.std.specs.List.{flat_map}
 use Rattle.std.specs.Option.{option_map}
@@ -105,10 +105,6 @@ file_row levels nodes commits file = row_at levels nodes file (count file commit
 
 abbrev pub file_rows : ℕ → List NodeView → List Commit → List FileRow
 file_rows levels nodes commits = map (file_row levels nodes commits) (files_in commits)
-
--- those of the commits among entries of the desk, the oldest first
-abbrev pub file_rows_after : ℕ → List NodeView → List DeskEntry → List FileRow
-file_rows_after levels nodes entries = file_rows levels nodes (commits (reverse entries))
 
 -- ---- the locks
 

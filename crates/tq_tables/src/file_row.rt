@@ -1,3 +1,5 @@
+//! The row of a file.
+
 ghost use Rattle.std.specs.Prelude.{◌≡◌, ◌+◌, ◌<◌, ◌≤◌, ◌^◌, length, IfOk};
 ghost use Rattle.std.specs.List.{All};
 ghost use Rattle.tq_shape.specs.ServerSet.{Ascends, servers_of_numbers};

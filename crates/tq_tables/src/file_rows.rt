@@ -1,4 +1,6 @@
-ghost use Rattle.std.specs.Prelude.{◌≡◌, ◌+◌, ◌<◌, ◌≤◌, ◌^◌, ◌++◌, ℕ, List, true, length, map, IfOk, OnOk};
+//! The rows of files that commits among entries write.
+
+ghost use Rattle.std.specs.Prelude.{◌≡◌, ◌+◌, ◌<◌, ◌≤◌, ◌^◌, ℕ, List, true, length, map, IfOk};
 ghost use Rattle.std.specs.List.{All};
 ghost use Rattle.tq_tables.specs.Counted.{names_of};
 ghost use Rattle.tq_tables.specs.Early.{AreHolders, OthersLack};
@@ -6,33 +8,15 @@ ghost use Rattle.tq_tables.specs.Files.{AreExact, version_in, written_row};
 ghost use Rattle.tq_tables.specs.Parts.{AreOfTree};
 ghost use Rattle.tq_tables.specs.Rows as spec;
 
+use crate::FileRow;
 use crate::file_names::FileNames;
 use crate::file_table::FileTable;
 use crate::holders::Holders;
-use crate::write_counts::WriteCounts;
-use crate::{DeskEntry, FileRow};
 use std::alloc::Global;
 use tq_desk::Op;
 use tq_node::Node;
 use tq_shape::{Levels, Memory, ServerSet};
 use tq_store::FileName;
-
-/// A row for each file that the commits among the desk's entries write.
-pub fn file_rows(
-    alloc: Global,
-    levels: Levels,
-    nodes: &[Node],
-    entries: &[DeskEntry],
-) -> Result<Vec<FileRow>, Memory>
-    requires { AreOfTree levels 1 nodes.now }
-    ensures { IfOk result (λ rows. rows.items
-        ≡ spec.file_rows_after levels nodes.now entries.now) }
-{
-    let counts = WriteCounts::of(alloc, entries)?;
-    let mut rows = Vec::new(alloc);
-    push_rows(alloc, &mut rows, levels, nodes, &counts)?;
-    Ok(rows)
-}
 
 /// A row for each file that the ops write, ascending by name, at the version after the one that the table says, or at
 /// version 1 where the table has no row of the file. Most asks have no ops, and take no memory.
@@ -137,51 +121,4 @@ pub(crate) fn copy_files(alloc: Global, rows: &[FileRow]) -> Result<Vec<FileRow>
         copies.push(row.copy()?)?;
     }
     Ok(copies)
-}
-
-/// Puts the rows of the files counted at the end.
-fn push_rows(
-    alloc: Global,
-    rows: &mut Vec<FileRow>,
-    levels: Levels,
-    nodes: &[Node],
-    counts: &WriteCounts,
-) -> Result<(), Memory>
-    requires { AreOfTree levels 1 nodes.now }
-    ensures { OnOk result (rows.new.items ≡ rows.old.items
-        ++ map (λ entry. spec.row_at levels nodes.now entry.0 entry.1) counts.now) }
-{
-    for (file, version) in counts.iter() {
-        rows.push(file_row(alloc, levels, nodes, *file, *version)?)?;
-    }
-    Ok(())
-}
-
-/// The row of a file that this many commits write.
-fn file_row(
-    alloc: Global,
-    levels: Levels,
-    nodes: &[Node],
-    file: FileName,
-    version: u64,
-) -> Result<FileRow, Memory>
-    requires { AreOfTree levels 1 nodes.now }
-    ensures { IfOk result (λ row. row ≡ spec.row_at levels nodes.now file version) }
-{
-    let mut current = ServerSet::new(alloc, levels)?;
-    let mut stale = ServerSet::new(alloc, levels)?;
-    for node in nodes {
-        let server = node.server();
-        if node.copies().get(&file).version >= version {
-            current.insert(server);
-        } else {
-            stale.insert(server);
-        }
-    }
-    Ok(FileRow {
-        file,
-        version,
-        current,
-        stale,
-    })
 }

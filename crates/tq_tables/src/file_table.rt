@@ -50,7 +50,7 @@ impl Model for FileTable {
 
 impl FileTable {
     /// A table with these rows, each of another file, whose sets of servers are of the tree.
-    pub(crate) fn of(alloc: Global, levels: Levels, rows: Vec<FileRow>) -> Result<FileTable, Memory>
+    fn of(alloc: Global, levels: Levels, rows: Vec<FileRow>) -> Result<FileTable, Memory>
         requires apart { Apart (spec.names_in rows.items) }
         requires of_tree { AreOfLevels levels rows.items }
         ensures { IfOk result (λ table. spec.HasRows table levels rows.items) }
@@ -62,7 +62,7 @@ impl FileTable {
     }
 
     /// A table with no row. It takes no memory yet.
-    fn new(alloc: Global, levels: Levels) -> FileTable
+    pub(crate) fn new(alloc: Global, levels: Levels) -> FileTable
         ensures levels { result.levels ≡ levels }
         ensures rows { result.rows ≡ [] }
     {

@@ -1,7 +1,7 @@
 //! The servers that may have a copy of a file before a commit of it is followed.
-ghost use Rattle.std.specs.Prelude.{◌≡◌, true, length, IfOk};
-ghost use Rattle.tq_tables.specs.Early.{HoldEarly, HoldForAnyRows, held_by};
-ghost use Rattle.tq_tables.specs.Parts.{AreOfTree};
+ghost use Rattle.std.specs.Prelude.{◌≡◌, ◌-◌, ◌^◌, [], true, replicate, IfOk};
+ghost use Rattle.tq_tables.specs.Early.{AreHolders, held_by};
+ghost use Rattle.tq_tables.specs.Parts.{AreOfTree, nodes_at};
 ghost use Rattle.tq_tables.specs.Rows.{servers_where};
 
 use std::alloc::Global;
@@ -24,12 +24,12 @@ impl Drop for Holders {
 }
 
 impl Holders {
-    /// Of these servers, whatever rows there are: each that has stored something may have such a copy.
-    pub(crate) fn of(alloc: Global, levels: Levels, nodes: &[Node]) -> Result<Holders, Memory>
-        requires { AreOfTree levels 1 nodes.now }
-        ensures { IfOk result (λ holders. HoldForAnyRows levels nodes.now holders) }
+    /// Of servers that were asked nothing, where no file has a row.
+    pub(crate) fn new(alloc: Global, levels: Levels, nodes: &[Node]) -> Result<Holders, Memory>
+        requires { nodes.now ≡ nodes_at levels 1 (replicate (2 ^ levels - 1) []) }
+        ensures { IfOk result (λ holders. AreHolders levels nodes.now [] holders) }
     {
-        let early = early_servers(alloc, levels, nodes)?;
+        let early = ServerSet::new(alloc, levels)?;
         let all = all_servers(alloc, levels, nodes)?;
         Ok(Holders { early, all })
     }
@@ -53,21 +53,6 @@ impl Holders {
             self.early.insert(server);
         }
     }
-}
-
-/// Those of the servers that have stored something.
-fn early_servers(alloc: Global, levels: Levels, nodes: &[Node]) -> Result<ServerSet, Memory>
-    requires { AreOfTree levels 1 nodes.now }
-    ensures { IfOk result (λ early. HoldEarly levels (length nodes.now) nodes.now early) }
-{
-    let mut early = ServerSet::new(alloc, levels)?;
-    for node in nodes {
-        let server = node.server();
-        if !node.stable().is_empty() {
-            early.insert(server);
-        }
-    }
-    Ok(early)
 }
 
 /// All servers.

@@ -1,3 +1,5 @@
+//! The row of an open vote.
+
 use tq_shape::{Seq, ServerId};
 use tq_store::FileName;
 

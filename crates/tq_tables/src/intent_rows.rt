@@ -1,3 +1,5 @@
+//! The rows of the votes that are open.
+
 ghost use Rattle.std.specs.Prelude.{◌≡◌, map, IfOk, Some};
 ghost use Rattle.std.specs.Iterator.{YieldsFirstBy};
 ghost use Rattle.tq_tables.specs.DeskStates.{intent_rows_at, intent_state_at};

@@ -1,3 +1,5 @@
+//! The journals of all parts.
+
 ghost use Rattle.std.specs.Prelude.{◌≡◌, ◌≤◌, ◌+◌, ◌^◌, length, All};
 ghost use Rattle.tq_tables.specs.Journals.{AreJournals, IsOfTree, entries_in};
 
@@ -92,6 +94,23 @@ impl Journals {
             desk,
             view,
         }
+    }
+
+    /// The entries of the servers, of the desk and of the view. It takes no memory.
+    pub(crate) fn into_entries(self) -> (Vec<Vec<NodeEntry>>, Vec<DeskEntry>, Vec<ViewEntry>)
+        ensures servers { entries_in result.0.items ≡ self.servers }
+        ensures desk { result.1.items ≡ self.desk }
+        ensures view { result.2.items ≡ self.view }
+        ensures form { AreJournals self }
+    {
+        let Self {
+            levels: _,
+            limits: _,
+            servers,
+            desk,
+            view,
+        } = self;
+        (servers, desk, view)
     }
 
     /// How many levels the tree of servers has.

@@ -1,9 +1,6 @@
 //! The journals of a system: what each server, the desk and the view were asked and what they answered; and the tables
 //! that say how the system stands after them.
 //!
-//! Files: `journals.rt` the journals of all parts; `parts.rt`, `replay.rt` the parts after them; `tables.rt` over
-//! `live_tables.rt` the tables; `tabled_journals.rt` tables beside bare journals; `file_table.rt` the rows of files;
-//! `holders.rt` the servers that may have a copy of a file with no row; one file for each other list of rows.
 //! Definitions: `specs/Journals`, `Parts`, `Rows`, `Tables`; `Tabled`, `Told`, `Counted`, `Files`, `NamesApart`,
 //! `DeskStates` are the code's own words.
 #![tactic(auto)]
@@ -12,11 +9,11 @@ mod file_names;
 mod file_row;
 mod file_rows;
 mod file_table;
+mod followed;
 mod holders;
 mod intent_row;
 mod intent_rows;
 mod journals;
-mod live_tables;
 mod lock_row;
 mod lock_rows;
 mod part_entry;
@@ -25,12 +22,10 @@ mod quorum_row;
 mod quorum_rows;
 mod ready;
 mod ready_entry;
-mod replay;
 mod replies;
 pub mod rows;
 mod tabled_journals;
 mod tables;
-mod write_counts;
 
 pub use file_row::FileRow;
 pub use intent_row::{FileVersion, IntentRow, IntentState};
@@ -38,9 +33,7 @@ pub use intent_rows::{OpenIntent, OpenIntents};
 pub use journals::{DeskEntry, Journals, NodeEntry, ViewEntry};
 pub use lock_row::LockRow;
 pub use part_entry::PartEntry;
-pub use parts::Parts;
 pub use quorum_row::QuorumRow;
-pub use replay::{replay_desk, replay_nodes};
 pub use replies::Replies;
 pub use tabled_journals::TabledJournals;
 pub use tables::Tables;

@@ -1,3 +1,5 @@
+//! The row of a lock.
+
 use tq_locks::Mode;
 use tq_shape::ServerId;
 use tq_store::FileName;

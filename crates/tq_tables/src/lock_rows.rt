@@ -1,3 +1,5 @@
+//! The rows of the locks that are held.
+
 ghost use Rattle.std.specs.Prelude.{◌≡◌, ◌++◌, map, IfOk, OnOk};
 ghost use Rattle.std.specs.FinMap as fin;
 ghost use Rattle.tq_tables.specs.Rows as spec;

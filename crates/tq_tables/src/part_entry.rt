@@ -1,3 +1,5 @@
+//! An entry of any part, lent.
+
 use crate::{DeskEntry, NodeEntry, ViewEntry};
 
 /// An entry of the journal of a server, of the desk or of the view, lent.

@@ -1,10 +1,12 @@
-ghost use Rattle.std.specs.Prelude.{◌≡◌, ◌+◌, ◌-◌, ◌<◌, ◌≤◌, ◌^◌, IfOk, OnOk, OnErr, length, slice_index_or};
+//! All parts of a system.
+
+ghost use Rattle.std.specs.Prelude.{◌≡◌, ◌+◌, ◌-◌, ◌<◌, ◌≤◌, ◌^◌, [], IfOk, OnOk, OnErr, length, replicate};
+ghost use Rattle.std.specs.Prelude.{slice_index_or};
 ghost use Rattle.tq_desk.specs.DeskChanges.{DeskFits};
 ghost use Rattle.tq_tables.specs.Asked.{view_replies};
+ghost use Rattle.tq_tables.specs.Parts.{nodes_at};
 ghost use Rattle.tq_tables.specs.Told.{HasAnswered, IsAboveLast, KeepsUntold, ReachesTold, TellsReply};
 
-use crate::Journals;
-use crate::replay::{replay_desk, replay_nodes, replay_view};
 use crate::replies::{Replies, twice};
 use std::alloc::Global;
 use std::marker::Model;
@@ -12,10 +14,10 @@ use tq_asks::NodeAsk;
 use tq_desk::{Desk, DeskChange};
 use tq_live::{View, ViewAsk, ViewReply};
 use tq_node::{Node, Telling};
-use tq_shape::{Levels, Memory};
+use tq_shape::{Levels, Limits, Memory, ServerId};
 
 /// All parts of a system: the servers of one tree, upwards from server 1, the desk and the view of that tree.
-pub struct Parts {
+pub(crate) struct Parts {
     nodes: Vec<Node>,
     desk: Desk,
     view: View,
@@ -48,30 +50,21 @@ impl Model for Parts {
 }
 
 impl Parts {
-    ghost use Rattle.tq_tables.specs.Parts.{AreLegal, AreOfTree, parts_of, with_change, with_view_asked};
+    ghost use Rattle.tq_tables.specs.Journals.{no_entries};
+    ghost use Rattle.tq_tables.specs.Parts.{AreOfTree, parts_of, with_change, with_view_asked};
 
-    /// These parts: servers of the view's tree, upwards from server 1, the desk and the view.
-    pub fn new(nodes: Vec<Node>, desk: Desk, view: View) -> Parts
-        requires { AreOfTree view.levels 1 nodes.items }
-        ensures { result ≡ record { nodes = nodes.items; desk = desk; view = view } }
+    /// The parts of a system that was asked nothing.
+    pub(crate) fn new(alloc: Global, levels: Levels, limits: Limits) -> Result<Parts, Memory>
+        ensures { IfOk result (λ parts. parts ≡ parts_of (no_entries levels limits)) }
     {
-        Parts { nodes, desk, view }
-    }
-
-    /// The parts as these journals, which are legal, leave them.
-    pub fn replay(alloc: Global, journals: &Journals) -> Result<Parts, Memory>
-        requires { AreLegal journals.now }
-        ensures { IfOk result (λ parts. parts ≡ parts_of journals.now) }
-    {
-        let levels = journals.levels();
-        let nodes = replay_nodes(alloc, levels, journals.servers())?;
-        let desk = replay_desk(alloc, levels, journals.limits(), journals.desk())?;
-        let view = replay_view(alloc, levels, journals.view())?;
+        let nodes = new_nodes(alloc, levels)?;
+        let desk = Desk::new(alloc, levels, limits);
+        let view = View::new(alloc, levels)?;
         Ok(Parts { nodes, desk, view })
     }
 
     /// Equal parts, with memory of their own.
-    pub fn copy(&self, alloc: Global) -> Result<Parts, Memory>
+    pub(crate) fn copy(&self, alloc: Global) -> Result<Parts, Memory>
         ensures { IfOk result (λ copy. copy ≡ self.now) }
     {
         let nodes = copy_nodes(alloc, self.nodes.as_slice())?;
@@ -138,14 +131,14 @@ impl Parts {
     }
 
     /// How many levels the tree of servers has.
-    pub fn levels(&self) -> Levels
+    pub(crate) fn levels(&self) -> Levels
         ensures { result ≡ self.now.view.levels }
     {
         self.view.tree().levels()
     }
 
     /// The servers, upwards from server 1.
-    pub fn nodes(&self) -> &[Node]
+    pub(crate) fn nodes(&self) -> &[Node]
         ensures value { result.now ≡ self.now.nodes }
         ensures of_tree { AreOfTree self.now.view.levels 1 result.now }
     {
@@ -164,18 +157,31 @@ impl Parts {
     }
 
     /// The desk.
-    pub fn desk(&self) -> &Desk
+    pub(crate) fn desk(&self) -> &Desk
         ensures { result.now ≡ self.now.desk }
     {
         &self.desk
     }
 
     /// The view.
-    pub fn view(&self) -> &View
+    pub(crate) fn view(&self) -> &View
         ensures { result.now ≡ self.now.view }
     {
         &self.view
     }
+}
+
+/// The servers of a tree, of which none was asked anything.
+fn new_nodes(alloc: Global, levels: Levels) -> Result<Vec<Node>, Memory>
+    ensures { IfOk result (λ nodes. nodes.items
+        ≡ nodes_at levels 1 (replicate (2 ^ levels - 1) [])) }
+{
+    let mut nodes = Vec::new(alloc);
+    for below in 0..levels.servers() {
+        let server = ServerId::new(levels, below + 1);
+        nodes.push(Node::new(alloc, levels, server))?;
+    }
+    Ok(nodes)
 }
 
 /// Servers equal to these, with memory of their own.

@@ -1,3 +1,5 @@
+//! The row of a subtree's least quorums.
+
 use tq_live::Least;
 
 /// The first quorums of least cost of a server's subtree among those that are up; none where none is up.

@@ -1,3 +1,5 @@
+//! The rows of all subtrees' least quorums.
+
 ghost use Rattle.std.specs.Prelude.{◌≡◌, IfOk};
 ghost use Rattle.std.specs.Bool.{OnFalse};
 ghost use Rattle.tq_tables.specs.Rows as spec;

@@ -1,3 +1,5 @@
+//! What is reserved: an ask of any part with its number.
+
 ghost use Rattle.std.specs.Prelude.{◌≡◌, ◌↔◌, IsTrue, IfOk};
 
 use crate::PartEntry;

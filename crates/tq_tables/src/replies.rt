@@ -1,3 +1,5 @@
+//! A reply, twice.
+
 ghost use Rattle.std.specs.Prelude.{◌≡◌, IfOk};
 ghost use Rattle.tq_tables.specs.Asked.{both};
 

@@ -1,12 +1,13 @@
+//! Tables beside bare journals.
+
 ghost use Rattle.std.specs.Prelude.{◌≡◌, ◌-◌, ◌^◌, [], replicate, IfOk};
 ghost use Rattle.tq_tables.specs.Journals.{AreJournals, entries_in, no_entries};
+ghost use Rattle.tq_tables.specs.Parts.{AreLegal};
 ghost use Rattle.tq_tables.specs.Tabled.{journals_of};
 ghost use Rattle.tq_tables.specs.Tables.{tables_of};
 
-use crate::{DeskEntry, Journals, NodeEntry, Parts, Tables, ViewEntry, replay_nodes};
+use crate::{DeskEntry, Journals, NodeEntry, Tables, ViewEntry};
 use std::alloc::Global;
-use tq_desk::Desk;
-use tq_live::View;
 use tq_shape::{Levels, Limits, Memory};
 
 /// Tables, and beside them bare journals of the same parts, each the oldest entry first. What holds of the journals, and
@@ -40,16 +41,32 @@ impl TabledJournals {
             tabled.tables ≡ tables_of (no_entries levels limits)) }
     {
         let servers = empty_journals(alloc, levels)?;
-        let nodes = replay_nodes(alloc, levels, servers.as_slice())?;
-        let desk = Desk::new(alloc, levels, limits);
-        let view = View::new(alloc, levels)?;
-        let tables = Tables::over(alloc, Parts::new(nodes, desk, view), &[])?;
+        let tables = Tables::new(alloc, levels, limits)?;
         Ok(TabledJournals {
             limits,
             tables,
             servers,
             desk: Vec::new(alloc),
             view: Vec::new(alloc),
+        })
+    }
+
+    /// These journals with their tables: each reply is the one that its part gives there. The entries are not copied.
+    pub fn of(alloc: Global, journals: Journals) -> Result<TabledJournals, Memory>
+        requires { AreLegal journals }
+        ensures journals { IfOk result (λ tabled. journals_of tabled ≡ journals) }
+        ensures tables { IfOk result (λ tabled. tabled.tables ≡ tables_of journals) }
+        ensures form { IfOk result (λ tabled. AreJournals (journals_of tabled)) }
+    {
+        let tables = Tables::of(alloc, &journals)?;
+        let limits = journals.limits();
+        let (servers, desk, view) = journals.into_entries();
+        Ok(TabledJournals {
+            limits,
+            tables,
+            servers,
+            desk,
+            view,
         })
     }
 

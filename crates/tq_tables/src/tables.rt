@@ -1,31 +1,45 @@
-ghost use Rattle.std.specs.Prelude.{◌≡◌, ◌+◌, ◌^◌, ◌↔◌, Some, length, IsTrue, IfOk, IsOk, OnOk, OnErr};
+//! The tables of a system.
+
+ghost use Rattle.std.specs.Prelude.{◌≡◌, ◌+◌, ◌^◌, ◌↔◌, true, Some, None, length, IsTrue, IfOk, IsOk, OnOk, OnErr};
 ghost use Rattle.std.specs.Bool.{OnFalse};
 ghost use Rattle.std.specs.List.{All};
+ghost use Rattle.tq_live.specs.Live.{Live};
+ghost use Rattle.tq_live.specs.View.{view_after};
 ghost use Rattle.tq_tables.specs.Asked.{FollowsDesk, FollowsNode, FollowsView, MayAskDesk, MayAskNode};
 ghost use Rattle.tq_tables.specs.Asked.{desk_replies, node_replies, view_replies};
-ghost use Rattle.tq_tables.specs.Reserved.{ready_entry, reserved_entry, reserve_in};
+ghost use Rattle.tq_tables.specs.Files as spec;
+ghost use Rattle.tq_tables.specs.Reserved.{IsReserve, ready_entry, reserved_entry};
+ghost use Rattle.tq_tables.specs.Tables.{TablesView};
 
-use crate::live_tables::LiveTables;
+use crate::file_rows::rows_written;
+use crate::file_table::FileTable;
+use crate::followed::Followed;
+use crate::holders::Holders;
+use crate::intent_rows::{OpenIntents, intent_rows};
+use crate::lock_rows::lock_rows;
+use crate::parts::Parts;
+use crate::quorum_rows::{least_into, quorum_rows};
 use crate::ready::Ready;
-use crate::replies::Replies;
-use crate::{
-    DeskEntry, FileRow, IntentRow, Journals, LockRow, OpenIntents, PartEntry, Parts, QuorumRow,
-};
+use crate::ready_entry::ReadyEntry;
+use crate::replies::{Replies, twice};
+use crate::{FileRow, IntentRow, Journals, LockRow, PartEntry, QuorumRow};
 use std::alloc::Global;
 use std::marker::Model;
 use tq_asks::{NodeAsk, NodeReply};
-use tq_desk::{Desk, DeskAsk, DeskReply};
+use tq_desk::{Desk, DeskAsk, DeskReply, Op};
 use tq_live::{Least, Purpose, View, ViewAsk, ViewReply};
-use tq_node::Node;
-use tq_shape::{Levels, Memory, Part, ServerId};
+use tq_node::{Node, Telling};
+use tq_shape::{Levels, Limits, Memory, Part, ServerId};
 
 /// The servers, the desk and the view that the tables follow, and rows that say how these stand: the least quorum of
 /// each subtree, the files that commits wrote, the locks that are held, and the votes that are open.
 ///
-/// A note of an entry may be reserved: the tables as they will follow it are kept beside them then, and a note takes
-/// these.
+/// The rows of files are kept, and an ask changes only those of the files that it is about. The other rows are read
+/// off the parts, which keep them in order: the best of each subtree, the lock tables, and the open votes.
+///
+/// A note of an entry may be reserved: what is followed after it is kept beside then, and a note takes this.
 pub struct Tables {
-    followed: LiveTables,
+    followed: Followed,
     ready: Option<Box<Ready>>,
 }
 
@@ -40,7 +54,6 @@ impl Drop for Tables {
 }
 
 impl Model for Tables {
-    ghost use Rattle.std.specs.Prelude.{◌≡◌, None, IfSome};
     ghost use Rattle.tq_intents.specs.contracts.record.Record as record_type;
     ghost use Rattle.tq_intents.specs.contracts.record.OpenVote as vote_type;
     ghost use Rattle.tq_asks.specs.contracts.ask.Verdict as verdict_type;
@@ -49,48 +62,69 @@ impl Model for Tables {
     ghost use Rattle.tq_tables.specs.contracts.lock_row.LockRow as lock_type;
     ghost use Rattle.tq_tables.specs.contracts.intent_row.IntentRow as intent_type;
     ghost use Rattle.tq_tables.specs.contracts.ready_entry.ReadyEntry as ready_type;
-    ghost use Rattle.tq_tables.specs.Reserved.{AreReady, reserved_entry, with_ready};
+    ghost use Rattle.tq_tables.specs.Reserved.{AreFollowed, IsReserve, reserved_entry, tables_in, with_ready};
     ghost use Rattle.tq_tables.specs.Tables.{TablesView, tables_code};
 
     ghost Value = { TablesView };
 
     ghost coded = { tables_code record_type.the_row.coded vote_type.the_row.coded verdict_type.the_row.coded quorum_type.the_row.coded file_type.the_row.coded lock_type.the_row.coded intent_type.the_row.coded ready_type.the_row.coded };
 
-    ghost view = { λ a. with_ready a.followed (reserved_entry a.ready) };
+    ghost view = { λ a. with_ready (tables_in a.followed) (reserved_entry a.ready) };
 
-    ghost invariant = { λ a. (a.followed.ready ≡ None) × IfSome a.ready (λ ready. AreReady a.followed ready.value.after ready.value.entry) };
+    ghost invariant = { λ a. AreFollowed a.followed × IsReserve (tables_in a.followed) a.ready };
 }
 
 impl Tables {
     ghost use Rattle.tq_tables.specs.NextEntry.{FollowsEntry, IsNextEntry};
-    ghost use Rattle.tq_tables.specs.Parts.{AreLegal, StandsAfter};
-    ghost use Rattle.tq_tables.specs.Reserved.{IsReadyFor, unready};
+    ghost use Rattle.tq_tables.specs.Journals.{no_entries};
+    ghost use Rattle.tq_tables.specs.Parts.{AreLegal};
+    ghost use Rattle.tq_tables.specs.Reserved.{AreFollowed, IsReadyFor, LeadsTo, ask_of, tables_in, unready};
     ghost use Rattle.tq_tables.specs.Rows.{row_if, least_in};
-    ghost use Rattle.tq_tables.specs.Tables.{tables_of, tables_over};
+    ghost use Rattle.tq_tables.specs.Tables.{tables_of};
 
-    /// The tables of these journals, which are legal: each reply is the one that its part gives there.
-    pub fn of(alloc: Global, journals: &Journals) -> Result<Tables, Memory>
-        requires { AreLegal journals.now }
-        ensures { IfOk result (λ tables. tables ≡ tables_of journals.now) }
+    /// The tables of a system that was asked nothing.
+    pub fn new(alloc: Global, levels: Levels, limits: Limits) -> Result<Tables, Memory>
+        ensures { IfOk result (λ tables. tables ≡ tables_of (no_entries levels limits)) }
     {
-        let followed = LiveTables::of(alloc, journals)?;
+        let parts = Parts::new(alloc, levels, limits)?;
+        let holders = Holders::new(alloc, levels, parts.nodes())?;
+        let parts = Box::new(alloc, parts)?;
+        let files = Box::new(alloc, FileTable::new(alloc, levels))?;
+        let holders = Box::new(alloc, holders)?;
         Ok(Tables {
-            followed,
+            followed: Followed {
+                parts,
+                files,
+                holders,
+            },
             ready: None,
         })
     }
 
-    /// The tables over these parts, of which the desk stands as a legal journal with these entries leaves it. The rows of
-    /// files, locks and intentions are of the servers alone.
-    pub fn over(alloc: Global, parts: Parts, entries: &[DeskEntry]) -> Result<Tables, Memory>
-        requires { StandsAfter parts.desk entries.now }
-        ensures { IfOk result (λ tables. tables ≡ tables_over parts entries.now) }
+    /// The tables of these journals, which are legal: each reply is the one that its part gives there. Each part is asked
+    /// again what its journal has, the desk before the servers, so that no commit looks at a server's copies.
+    pub fn of(alloc: Global, journals: &Journals) -> Result<Tables, Memory>
+        requires { AreLegal journals.now }
+        ensures { IfOk result (λ tables. tables ≡ tables_of journals.now) }
     {
-        let followed = LiveTables::over(alloc, parts, entries)?;
-        Ok(Tables {
-            followed,
-            ready: None,
-        })
+        let servers = journals.servers();
+        let mut tables = Tables::new(alloc, journals.levels(), journals.limits())?;
+        for view_entry in journals.view() {
+            tables.follow_view(alloc, &view_entry.ask)?;
+        }
+        for desk_entry in journals.desk() {
+            tables.ask_desk(alloc, &desk_entry.ask)?;
+        }
+        let mut server = 0;
+        for entries in servers {
+            server += 1;
+            let mut number = 0;
+            for entry in entries.as_slice() {
+                number += 1;
+                tables.ask_node(alloc, server, number, &entry.ask)?;
+            }
+        }
+        Ok(tables)
     }
 
     /// Equal tables, with memory of their own: what is reserved is reserved there too.
@@ -118,7 +152,18 @@ impl Tables {
         ensures asked { OnOk result (FollowsNode self.old self.new server ask.now) }
         ensures unchanged { OnErr result (self.new ≡ self.old) }
     {
-        self.followed.ask_node(alloc, server, number, ask)
+        let parts: &mut Parts = &mut self.followed.parts;
+        let files: &mut FileTable = &mut self.followed.files;
+        let holders: &mut Holders = &mut self.followed.holders;
+        let Telling {
+            entered,
+            told,
+            raised,
+        } = parts.ask_node(alloc, server, number, ask)?;
+        let node = parts.node(server);
+        let found = files.set_currency_of_raised(node, ask, &raised);
+        holders.hold(node.server(), found);
+        Ok(Replies { entered, told })
     }
 
     /// Asks the view. No row of files changes, and nothing is reserved any more. Out of memory leaves the tables as they
@@ -129,7 +174,8 @@ impl Tables {
         ensures asked { OnOk result (FollowsView (unready self.old) self.new ask.now) }
         ensures unchanged { OnErr result (self.new ≡ self.old) }
     {
-        let replies = self.followed.ask_view(alloc, ask)?;
+        let parts: &mut Parts = &mut self.followed.parts;
+        let replies = parts.ask_view(alloc, ask)?;
         self.ready = None;
         Ok(replies)
     }
@@ -143,7 +189,17 @@ impl Tables {
         ensures asked { OnOk result (FollowsDesk self.old self.new ask.now) }
         ensures unchanged { OnErr result (self.new ≡ self.old) }
     {
-        self.followed.ask_desk(alloc, ask)
+        let parts: &mut Parts = &mut self.followed.parts;
+        let files: &mut FileTable = &mut self.followed.files;
+        let plan = parts.desk().plan(alloc, ask)?;
+        let change = plan.change;
+        let replies = twice::<Desk>(alloc, plan.reply)?;
+        let ops = committed_ops(ask, &replies.entered);
+        let rows = rows_written(alloc, parts.nodes(), &self.followed.holders, files, ops)?;
+        files.reserve(rows.len())?;
+        parts.change_desk(change)?;
+        files.put_all(rows);
+        Ok(replies)
     }
 
     /// Reserves what a note of this entry, of that number, takes: a `note` of it directly after this does not fail. The
@@ -162,8 +218,15 @@ impl Tables {
         ensures ready { OnOk result (IsReadyFor self.new part number entry.now) }
         ensures unchanged { OnErr result (self.new ≡ self.old) }
     {
-        let ready = Ready::of(alloc, &self.followed, part, number, entry)?;
-        self.ready = Some(Box::new(alloc, ready)?);
+        let followed = self.followed.copy(alloc)?;
+        let mut tables = Tables {
+            followed,
+            ready: None,
+        };
+        tables.follow(alloc, part, number, entry)?;
+        let after = tables.into_followed();
+        let entry = ReadyEntry::of(part, number, entry)?;
+        self.ready = Some(Box::new(alloc, Ready { entry, after })?);
         Ok(())
     }
 
@@ -182,16 +245,75 @@ impl Tables {
         ensures unchanged { OnErr result (self.new ≡ self.old) }
         ensures reserved { IsReadyFor self.old part number entry.now → IsOk result }
     {
-        if is_ready(&self.ready, part, number, entry) {
-            match self.ready.take() {
+        let ready = self.ready.take();
+        if is_ready(&ready, part, number, entry) {
+            match ready {
                 Some(ready) => self.followed = Box::into_inner(ready).into_after(),
                 None => unreachable!(),
             }
             return Ok(());
         }
-        self.followed.note(alloc, part, number, entry)?;
-        self.ready = None;
+        match self.follow(alloc, part, number, entry) {
+            Ok(()) => Ok(()),
+            Err(fault) => {
+                self.ready = ready;
+                Err(fault)
+            }
+        }
+    }
+
+    /// The same where nothing is reserved.
+    fn follow(
+        &mut self,
+        alloc: Global,
+        part: Part,
+        number: u64,
+        entry: &PartEntry<'_>,
+    ) -> Result<(), Memory>
+        requires { IsNextEntry self.old part number entry.now }
+        ensures noted { OnOk result (LeadsTo self.old self.new part (ask_of entry.now)) }
+        ensures unchanged { OnErr result (self.new ≡ self.old) }
+    {
+        match part {
+            Part::Server(server) => match entry {
+                PartEntry::Server(entry) => {
+                    self.ask_node(alloc, server, number, &entry.ask)?;
+                }
+                PartEntry::Desk(_) | PartEntry::View(_) => unreachable!(),
+            },
+            Part::Desk => match entry {
+                PartEntry::Desk(entry) => {
+                    self.ask_desk(alloc, &entry.ask)?;
+                }
+                PartEntry::Server(_) | PartEntry::View(_) => unreachable!(),
+            },
+            Part::View => match entry {
+                PartEntry::View(entry) => self.follow_view(alloc, &entry.ask)?,
+                PartEntry::Server(_) | PartEntry::Desk(_) => unreachable!(),
+            },
+        }
         Ok(())
+    }
+
+    /// The same of an ask of the view.
+    fn follow_view(&mut self, alloc: Global, ask: &ViewAsk) -> Result<(), Memory>
+        ensures noted { OnOk result (FollowsView self.old self.new ask.now) }
+        ensures unchanged { OnErr result (self.new ≡ self.old) }
+    {
+        if changes_nothing(ask) {
+            return Ok(());
+        }
+        self.ask_view(alloc, ask)?;
+        Ok(())
+    }
+
+    /// What the tables follow.
+    fn into_followed(self) -> Followed
+        ensures value { tables_in result ≡ unready self }
+        ensures followed { AreFollowed result }
+    {
+        let Self { followed, ready: _ } = self;
+        followed
     }
 
     /// How many levels the tree of servers has.
@@ -199,21 +321,21 @@ impl Tables {
         ensures value { result ≡ self.now.levels }
         ensures followed { self.now.view.levels ≡ result }
     {
-        self.followed.levels()
+        self.followed.parts.levels()
     }
 
     /// The servers that the tables follow, upwards from server 1.
     pub fn nodes(&self) -> &[Node]
         ensures { result.now ≡ self.now.nodes }
     {
-        self.followed.nodes()
+        self.followed.parts.nodes()
     }
 
     /// The desk that the tables follow.
     pub fn desk(&self) -> &Desk
         ensures { result.now ≡ self.now.desk }
     {
-        self.followed.desk()
+        self.followed.parts.desk()
     }
 
     /// The view that the tables follow.
@@ -221,7 +343,7 @@ impl Tables {
         ensures value { result.now ≡ self.now.view }
         ensures followed { result.now.levels ≡ self.now.levels }
     {
-        self.followed.view()
+        self.followed.parts.view()
     }
 
     /// For each server, upwards from server 1, the first quorums of least cost of its subtree among those that are up, to
@@ -230,7 +352,8 @@ impl Tables {
         ensures value { IfOk result (λ rows. rows.items ≡ self.now.quorums) }
         ensures one_each { IfOk result (λ rows. length rows.items + 1 ≡ 2 ^ self.now.levels) }
     {
-        self.followed.quorums(alloc)
+        let rows = quorum_rows(alloc, self.followed.parts.view().tree())?;
+        Ok(rows)
     }
 
     /// Writes the least quorum of the server's subtree for the purpose, as the row of the server has it, into the row that is
@@ -243,7 +366,8 @@ impl Tables {
         ensures stays { OnFalse result (row.new ≡ row.old) }
         ensures tree { row.new.servers.levels ≡ self.now.levels }
     {
-        self.followed.least_into(purpose, server, row)
+        let _within = server.number();
+        least_into(self.followed.parts.view().tree(), purpose, server, row)
     }
 
     /// The files that commits wrote, in the order of the first such commit, and within one commit ascending by name.
@@ -252,34 +376,41 @@ impl Tables {
         ensures of_tree { All (λ row. (row.current.levels ≡ self.now.levels)
             × (row.stale.levels ≡ self.now.levels)) result.now }
     {
-        self.followed.files()
+        let _parts = &self.followed.parts;
+        self.followed.files.rows()
     }
 
     /// The locks that are held, ascending by server, file and transaction. They are read off the servers.
     pub fn locks(&self, alloc: Global) -> Result<Vec<LockRow>, Memory>
         ensures { IfOk result (λ rows. rows.items ≡ self.now.locks) }
     {
-        self.followed.locks(alloc)
+        lock_rows(alloc, self.followed.parts.nodes())
     }
 
     /// The votes that are open, ascending by server and transaction. They are read off the servers and the desk.
     pub fn intentions(&self, alloc: Global) -> Result<Vec<IntentRow>, Memory>
         ensures { IfOk result (λ rows. rows.items ≡ self.now.intentions) }
     {
-        self.followed.intentions(alloc)
+        intent_rows(
+            alloc,
+            self.followed.parts.nodes(),
+            self.followed.parts.desk(),
+        )
     }
 
     /// The same, one after another, each with its writes as they are kept. It takes no memory.
     pub fn open_intents(&self) -> OpenIntents<'_>
         ensures { result ≡ self.now.intentions }
     {
-        self.followed.open_intents()
+        OpenIntents::over(self.followed.parts.nodes(), self.followed.parts.desk())
     }
 }
 
 /// What is reserved, with tables of its own memory.
 fn copy_ready(alloc: Global, ready: &Option<Box<Ready>>) -> Result<Option<Box<Ready>>, Memory>
-    ensures { IfOk result (λ copy. reserve_in copy ≡ reserve_in ready.now) }
+    ensures entry { IfOk result (λ copy. reserved_entry copy ≡ reserved_entry ready.now) }
+    ensures after { IfOk result (λ copy.
+        (old : TablesView) → IsReserve old ready.now → IsReserve old copy) }
 {
     match ready {
         Some(ready) => Ok(Some(Box::new(alloc, ready.copy(alloc)?)?)),
@@ -295,5 +426,25 @@ fn is_ready(ready: &Option<Box<Ready>>, part: Part, number: u64, entry: &PartEnt
     match ready {
         Some(ready) => ready.entry.is_for(part, number, entry),
         None => false,
+    }
+}
+
+/// Whether the ask leaves costs and marks as they are, whatever they are.
+fn changes_nothing(ask: &ViewAsk) -> bool
+    ensures { result ≡ true → (live : Live) → view_after live ask.now ≡ live }
+{
+    matches!(ask, ViewAsk::Choose { .. })
+}
+
+/// The ops of the commit that the desk replied to so, none where it replied otherwise.
+fn committed_ops<'a>(ask: &'a DeskAsk, reply: &DeskReply) -> &'a [Op]
+    ensures { result.now ≡ spec.committed_ops ask.now reply.now }
+{
+    match ask {
+        DeskAsk::Commit { ops, .. } => match reply {
+            DeskReply::Committed { .. } => ops.as_slice(),
+            _ => &[],
+        },
+        _ => &[],
     }
 }

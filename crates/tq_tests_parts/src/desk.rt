@@ -1,3 +1,5 @@
+//! The desk.
+
 use crate::check::{Wrong, check};
 use std::alloc::Global;
 use tq_asks::Verdict;

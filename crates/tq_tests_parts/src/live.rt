@@ -1,3 +1,5 @@
+//! The view's tree, against all sets of servers.
+
 use crate::check::{Wrong, check};
 use std::alloc::Global;
 use tq_live::{Choice, Least, LiveTree, Purpose, Turns, View, ViewAsk, ViewReply};

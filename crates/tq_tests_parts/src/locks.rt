@@ -1,3 +1,5 @@
+//! A lock table.
+
 use crate::check::{Wrong, check};
 use std::alloc::Global;
 use std::mem::forget;

@@ -1,3 +1,5 @@
+//! Servers.
+
 use crate::check::{Wrong, check};
 use std::alloc::Global;
 use tq_asks::{CitedVote, NodeAsk, NodeReply, WorkAsk};

@@ -1,3 +1,5 @@
+//! Servers, sets, quorums, names, stable records.
+
 use crate::check::{Wrong, check};
 use std::alloc::{AllocError, Global};
 use tq_coterie::{Quorum, holds_quorum, is_quorum, meet};

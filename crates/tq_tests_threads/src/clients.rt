@@ -50,7 +50,12 @@ fn ran<R: Threads + Wait + Abort + Sync, G: Gate + Drop + Sync>(
     let scripts = scripts(rt, alloc, text);
     let clients = scripts.len();
     assert!(rt; clients <= 16);
-    let Ran { callers, memory } = cluster.run_clients(rt, alloc, scripts, workers, rounds);
+    let Ran {
+        callers,
+        memory,
+        whole,
+    } = cluster.run_clients(rt, alloc, scripts, workers, rounds);
+    assert!(rt; whole);
     assert!(rt; !memory);
     assert!(rt; callers.len() == clients + workers as usize + 1);
     callers

@@ -1,8 +1,5 @@
 //! Tests of what no output of the program shows: threads that wait for one another inside the locks of parts, what a cell
 //! tells, a client that reads its own write, boards of a running cluster, and small limits.
-//!
-//! Files: `clients.rt` clients and workers in threads, by the gates of `gates.rt`; `boards.rt` a client and pulls;
-//! `cells.rt` a cell that fills.
 #![tactic(auto)]
 
 #[cfg(test)]

@@ -1,11 +1,7 @@
 //! What no program calls or prints: a service that is given steps, its rows after each of them, the end of transactions
 //! after each stop of a server, stable records, the tables of whole journals, a board beside another view, each kind of
 //! entry written as it was read, answers that no part of a client's world gives, an entry that is reserved, and evidence that
-//! breaks one rule.
-//!
-//! Files: `asked.rt` services, tables, boards, orders; `full.rt` a full journal; `stepped.rt` rows after each step of the
-//! runs of `runs.rt`; `stopped.rt`, `inside.rt` stops; `evidence.rt` a desk's rules; `recorded.rt` stable records; `rows.rt` rows of files; `foreign.rt`,
-//! `unfounded.rt` answers that no part gives; `written.rt`, `board.rt` texts; `reserved.rt` an entry reserved.
+//! breaks one rule. And the library in use, as README.md shows it.
 #![tactic(auto)]
 
 #[cfg(test)]
@@ -20,6 +16,8 @@ mod foreign;
 mod full;
 #[cfg(test)]
 mod inside;
+#[cfg(test)]
+mod library;
 #[cfg(test)]
 mod recorded;
 #[cfg(test)]

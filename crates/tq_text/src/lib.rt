@@ -1,6 +1,5 @@
 //! What answers and refusals look like.
 //!
-//! Files: `print.rt` answers; `refusals.rt` refusals.
 //! Definitions: `specs/Print`, `Refusals`.
 #![tactic(auto)]
 

@@ -1,3 +1,5 @@
+//! The abort of a transaction.
+
 ghost use Rattle.std.specs.Prelude.{◌≡◌, Some};
 ghost use Rattle.tq_txn.specs.Aborts as spec;
 ghost use Rattle.tq_txn.specs.Dialogue as line;

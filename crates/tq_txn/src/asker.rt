@@ -1,3 +1,5 @@
+//! What lines ask, and what they are told.
+
 use crate::{DeskTold, NodeTold};
 use std::alloc::Global;
 use tq_asks::{NodeAsk, NodeReply};

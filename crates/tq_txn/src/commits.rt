@@ -1,3 +1,5 @@
+//! The commit of a transaction.
+
 ghost use Rattle.std.specs.Prelude.{◌≡◌, ◌==◌, Err, true, IfOk};
 ghost use Rattle.std.specs.List.{list_all};
 ghost use Rattle.tq_coterie.specs.Coterie.{numbers_of};

@@ -1,3 +1,5 @@
+//! Why a line ends before its end.
+
 ghost use Rattle.std.specs.Prelude.{◌≡◌};
 ghost use Rattle.tq_txn.specs.Dialogue as spec;
 ghost use Rattle.tq_txn.specs.declared.fault.LineFault.TheVariants as line_faults;

@@ -1,7 +1,5 @@
 //! The lines of a client's transaction: what each asks of the parts, in order, and what it answers.
 //!
-//! Files: `asker.rt` what can be asked; `operations.rt` read and write; `endings.rt` prepare, apply, the ending;
-//! `commits.rt`, `aborts.rt`, `stops.rt`; `txn.rt` the states as one type.
 //! Definitions: `specs/Dialogue` (a line as a tree of asks), `Lines`, `Commits`, `Aborts`, `Told`.
 #![tactic(auto)]
 

@@ -1,3 +1,5 @@
+//! Reads and writes over a quorum.
+
 ghost use Rattle.std.specs.List.{list_all, Contains};
 ghost use Rattle.std.specs.Prelude.{◌≡◌, ◌==◌, ◌+◌, ◌<◌, ◌≤◌, ℕ, List, [], ◌∷◌, Ok, Err, true, length, IfOk, OnErr, OnOk, ◌++◌, false};
 ghost use Rattle.tq_coterie.specs.Coterie.{numbers_of};

@@ -1,3 +1,5 @@
+//! What a read answers.
+
 use tq_store::{Content, FileCopy};
 
 /// What a read of a file answers.

@@ -1,3 +1,5 @@
+//! A transaction in any of its states.
+
 ghost use Rattle.std.specs.Prelude.{◌≡◌};
 ghost use Rattle.tq_txn.specs.States as spec;
 

@@ -1,3 +1,5 @@
+//! Why a transaction does not take an answer.
+
 ghost use Rattle.std.specs.Prelude.{◌≡◌};
 ghost use Rattle.tq_txn_states.specs.declared.fault.TxnFault.TheVariants as faults;
 

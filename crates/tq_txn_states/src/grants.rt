@@ -1,3 +1,5 @@
+//! Grants, from the answers that tell of them.
+
 ghost use Rattle.std.specs.Prelude.{◌≡◌, ◌+◌, ◌==◌, IfOk, IfErr, None, OnOk, Some, map};
 ghost use Rattle.tq_shape.specs.Steps.{refuse_for};
 ghost use Rattle.tq_txn_states.specs.Open as spec;

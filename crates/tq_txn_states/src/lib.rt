@@ -1,7 +1,5 @@
 //! The states of a client's transaction as types: it reads and writes, it gathers votes, it has ended.
 //!
-//! Files: `open.rt` reading and writing; `voting.rt`, `votes.rt` gathering votes; `ready.rt` the evidence; `ended.rt` the
-//! verdict; `told.rt` answers; `servers.rt` the servers noted.
 //! Definitions: `specs/Open`, `Voting`, `Ended`, `Cited`.
 #![tactic(auto)]
 

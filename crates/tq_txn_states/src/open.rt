@@ -1,3 +1,5 @@
+//! A transaction that reads and writes.
+
 ghost use Rattle.std.specs.Prelude.{◌≡◌, ◌+◌, ◌<◌, ◌≤◌, ◌++◌, ℕ, List, [], ◌∷◌, None, Some, true, length, position, IfOk, IfErr, IfSome, IsSome, OnOk, OnErr, OnSome, MatchOption, false, vec_len, vec_capacity};
 ghost use Rattle.std.specs.List.{find};
 ghost use Rattle.std.specs.Option.{option_copied};

@@ -1,3 +1,5 @@
+//! A transaction with all its votes, and its evidence.
+
 ghost use Rattle.std.specs.Prelude.{◌≡◌, List, IfOk, IfErr, None, true};
 ghost use Rattle.tq_desk.specs.DeskStep as log;
 ghost use Rattle.tq_evidence.specs.Evidence as evidence;

@@ -1,3 +1,5 @@
+//! The servers that a transaction has noted.
+
 ghost use Rattle.std.specs.Prelude.{◌≡◌, ◌==◌, ◌+◌, ◌<◌, ◌≤◌, [], true, false, length, nat_lt, slice_get, vec_capacity, vec_len, IfOk, IsTrue, OnOk};
 ghost use Rattle.std.specs.List.{insert, list_all};
 ghost use Rattle.std.specs.List.Sorted.{IsPartitionPoint};

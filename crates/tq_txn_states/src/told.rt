@@ -1,3 +1,5 @@
+//! Answers as they were received.
+
 ghost use Rattle.std.specs.Prelude.{◌≡◌, IfOk};
 
 use tq_asks::{NodeAsk, NodeReply};

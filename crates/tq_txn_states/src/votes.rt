@@ -1,3 +1,5 @@
+//! Votes, from the answers that tell of them.
+
 ghost use Rattle.std.specs.Prelude.{◌≡◌, ◌==◌, ◌<◌, ◌≤◌, is_some, length, nat_lt, position, slice_get, true, false, vec_capacity, vec_len, IfOk, IfSome, IsTrue};
 ghost use Rattle.std.specs.List.{list_all, list_any};
 ghost use Rattle.std.specs.List.Sorted.{IsPartitionPoint};

@@ -1,3 +1,5 @@
+//! A transaction that gathers votes.
+
 ghost use Rattle.std.specs.Prelude.{◌≡◌, ◌≤◌, is_some, true, None, Some, IfOk, IfErr, IfSome, OnOk, OnErr, OnSome};
 ghost use Rattle.tq_coterie.specs.Coterie.{numbers_of};
 ghost use Rattle.tq_evidence.specs.Evidence as evidence;

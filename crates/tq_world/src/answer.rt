@@ -1,3 +1,5 @@
+//! Steps, their answers and refusals.
+
 use tq_asks::{NodeAsk, NodeReply};
 use tq_desk::{DeskAsk, DeskReply};
 use tq_live::{ViewAsk, ViewReply};

@@ -1,3 +1,5 @@
+//! What an ask cites.
+
 ghost use Rattle.std.specs.Prelude.{◌≡◌};
 ghost use Rattle.tq_world.specs.Founded as spec;
 

@@ -1,3 +1,5 @@
+//! The entry of a number.
+
 ghost use Rattle.std.specs.Prelude.{◌≡◌};
 ghost use Rattle.std.specs.Option.{option_copied};
 ghost use Rattle.tq_world.specs.World as world;

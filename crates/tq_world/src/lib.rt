@@ -2,8 +2,6 @@
 //! law of committed reads among them, and the tests of what an entry says. What carries the steps out stands in a crate
 //! above.
 //!
-//! Files: `answer.rt` steps, answers, refusals; `citation.rt` what an ask cites, `founded.rt` whether an entry
-//! says so, `unfounded.rt` the first citation of an ask that is not founded; `item.rt` the entry of a number.
 //! Definitions: `specs/World`, `Founded`, `Steps`, `Offered`, `CommittedReads`, `Headline`.
 #![tactic(auto)]
 

@@ -27,7 +27,7 @@ returns-in-Ok-clause-ran g t c = λ none.
     let other = c.if-started-team.false in
     let more : workers - started ≡ (workers - (started + 1)) + 1 = grind (arith, nat_tests) in
     let both = c.either.ensures none in
-    let before = c.run_workers-memory.ensures.ran both.0 in
+    let before = c.run_workers-ended.ensures.ran both.0 in
     let caller = c.join-caller.result.caller in
     let mine = (view c.join-caller.result.taker.pass).taken in
     let works =
@@ -35,33 +35,33 @@ returns-in-Ok-clause-ran g t c = λ none.
     (subst (λ (p : WorkerPromise). Works p.0 mine caller) c.in-Ok.ensures.ok (c.join-caller.ensures.0 both.1)) in (
       before.0 ++ caller ∷ [],
       before.1 ++ mine,
-      joined c.args.callers.now.items c.args.callers.now.items c.run_workers-memory.new.callers.items before.0 (caller ∷ []) c.push_reserved.new.self.items refl before.2 c.push_reserved.ensures.items,
-      joined (view c.args.putter.now.pass).taken (view c.seat_for_worker.new.putter.pass).taken (view c.run_workers-memory.new.putter.pass).taken before.1 mine (view c.rejoin.new.self.pass).taken c.in-Some.ensures.taken before.3 c.rejoin.ensures.taken,
+      joined c.args.callers.now.items c.args.callers.now.items c.run_workers-ended.new.callers.items before.0 (caller ∷ []) c.push_reserved.new.self.items refl before.2 c.push_reserved.ensures.items,
+      joined (view c.args.putter.now.pass).taken (view c.seat_for_worker.new.putter.pass).taken (view c.run_workers-ended.new.putter.pass).taken before.1 mine (view c.rejoin.new.self.pass).taken c.in-Some.ensures.taken before.3 c.rejoin.ensures.taken,
       one_worker_more c.args.cluster.now.levels (workers - (started + 1)) (workers - started) before.1 mine before.0 caller more before.4 works,
     )
 
 pub returns-in-Ok-clause-began : goal.returns-in-Ok-clause-began
 returns-in-Ok-clause-began g t c =
-    let before = c.run_workers-memory.ensures.began in
+    let before = c.run_workers-ended.ensures.began in
     let caller = c.join-caller.result.caller in
     let began =
     subst (λ (n : ℕ). BeginsJobs n caller) c.levels.ensures
     (subst (λ (p : WorkerPromise). BeginsJobs p.0 caller) c.in-Ok.ensures.ok c.join-caller.ensures.2) in (
       before.0 ++ caller ∷ [],
-      joined c.args.callers.now.items c.args.callers.now.items c.run_workers-memory.new.callers.items before.0 (caller ∷ []) c.push_reserved.new.self.items refl before.1 c.push_reserved.ensures.items,
+      joined c.args.callers.now.items c.args.callers.now.items c.run_workers-ended.new.callers.items before.0 (caller ∷ []) c.push_reserved.new.self.items refl before.1 c.push_reserved.ensures.items,
       all_and (BeginsJobs c.args.cluster.now.levels) before.0 caller before.2 began,
     )
 
 pub returns-in-Ok-clause-channel : goal.returns-in-Ok-clause-channel
-returns-in-Ok-clause-channel g t c = c.rejoin.ensures.channel ∙ c.run_workers-memory.ensures.channel ∙ c.seat_for_worker.ensures.channel
+returns-in-Ok-clause-channel g t c = c.rejoin.ensures.channel ∙ c.run_workers-ended.ensures.channel ∙ c.seat_for_worker.ensures.channel
 
 pub returns-in-Ok-clause-room : goal.returns-in-Ok-clause-room
-returns-in-Ok-clause-room g t c = c.push_reserved.ensures.capacity ∙ c.run_workers-memory.ensures.room
+returns-in-Ok-clause-room g t c = c.push_reserved.ensures.capacity ∙ c.run_workers-ended.ensures.room
 
 pub returns-in-Ok-clause-parts : goal.returns-in-Ok-clause-parts
 returns-in-Ok-clause-parts g t c = λ none.
     let both = c.either.ensures none in
-    c.rejoin.ensures.parts ∙ ap (λ (n : ℕ). n + 1) (c.run_workers-memory.ensures.parts both.0) ∙ c.in-Some.ensures.taker.2
+    c.rejoin.ensures.parts ∙ ap (λ (n : ℕ). n + 1) (c.run_workers-ended.ensures.parts both.0) ∙ c.in-Some.ensures.taker.2
 
 pub returns-in-Ok-clause-some_part : goal.returns-in-Ok-clause-some_part
 returns-in-Ok-clause-some_part g t c = let one_more = c.rejoin.ensures.parts in omega (arith, one_more)

@@ -11,7 +11,7 @@ returns-in_default-clause-text g c =
     let given = g.R.Source.given in
     let ended = g.R.Source.is_ended in
     let taken = g.W.Sink.taken in
-    ends_read c.args.levels (ended c.read.new.self) (given c.args.reader.now) (given c.loop-count.reader) (taken c.args.writer.now) (taken c.loop-count.writer) c.loop-count.receiver c.loop-count.left c.loop-count.invariant.going
+    ends_read c.args.receiver.now.world (ended c.read.new.self) (given c.args.reader.now) (given c.loop-count.reader) (taken c.args.writer.now) (taken c.loop-count.writer) c.loop-count.receiver c.loop-count.left c.loop-count.invariant.going
     (given c.read.new.self) c.in_default.ensures.nothing
 
 pub returns-in_err-finish-clause-text : goal.returns-in_err-finish-clause-text
@@ -19,8 +19,8 @@ returns-in_err-finish-clause-text g c =
     let given = g.R.Source.given in
     let ended = g.R.Source.is_ended in
     let taken = g.W.Sink.taken in
-    by_fault c.from_residual.result Memory c.args.levels (ended c.read.new.self) _ _ _ _ (search rules)
-    (ends_memory c.args.levels (ended c.read.new.self) (given c.args.reader.now) (given c.loop-count.reader) (taken c.args.writer.now) (taken c.loop-count.writer) c.loop-count.receiver c.loop-count.left c.loop-count.invariant.going
+    by_fault c.from_residual.result Memory c.args.receiver.now.world (ended c.read.new.self) _ _ _ _ (search rules)
+    (ends_memory c.args.receiver.now.world (ended c.read.new.self) (given c.args.reader.now) (given c.loop-count.reader) (taken c.args.writer.now) (taken c.loop-count.writer) c.loop-count.receiver c.loop-count.left c.loop-count.invariant.going
     (given c.read.new.self) (take c.in-Ok.count c.read.new.buffer) c.in-Ok.ensures.bytes)
 
 pub returns-then-count-eq0-clause-text : goal.returns-then-count-eq0-clause-text
@@ -30,7 +30,7 @@ returns-then-count-eq0-clause-text g c =
     let taken = g.W.Sink.taken in
     let bytes = rw c.if-count-eq0.true at c.in-Ok.ensures.bytes in
     let text = rw c.loop-count.invariant.none at c.in_ok-finish.ensures in
-    ends_last c.args.levels (ended c.read.new.self) (given c.args.reader.now) (given c.loop-count.reader) (taken c.args.writer.now) (taken c.loop-count.writer) c.loop-count.receiver c.loop-count.left c.loop-count.invariant.going
+    ends_last c.args.receiver.now.world (ended c.read.new.self) (given c.args.reader.now) (given c.loop-count.reader) (taken c.args.writer.now) (taken c.loop-count.writer) c.loop-count.receiver c.loop-count.left c.loop-count.invariant.going
     c.write_out.result (given c.read.new.self) (taken c.write_out.new.writer) c.as_slice.result.now _ _ (c.in-Ok.ensures.end.1 c.if-count-eq0.true) bytes (c.as_slice.ensures.value ∙ text) c.write_out.ensures
 
 -- where the answers to a front of a piece are not written
@@ -45,8 +45,8 @@ returns-in_err-write_out-clause-text g c =
     let bytes = rw split at c.in-Ok.ensures.bytes in
     let whole = c.receive-received.ensures.whole in
     let text = said_alone _ _ _ c.loop-piece.invariant.none whole.1 in
-    by_fault c.from_residual-in_err-write_out.result c.in_err-write_out.field-0.0 c.args.levels (ended c.read.new.self) _ _ _ _ (search rules)
-    (ends_piece c.args.levels (ended c.read.new.self) (given c.args.reader.now) (given c.loop-count.reader) (taken c.args.writer.now) (taken c.loop-count.writer) c.loop-count.receiver c.loop-count.left c.loop-count.invariant.going
+    by_fault c.from_residual-in_err-write_out.result c.in_err-write_out.field-0.0 c.args.receiver.now.world (ended c.read.new.self) _ _ _ _ (search rules)
+    (ends_piece c.args.receiver.now.world (ended c.read.new.self) (given c.args.reader.now) (given c.loop-count.reader) (taken c.args.writer.now) (taken c.loop-count.writer) c.loop-count.receiver c.loop-count.left c.loop-count.invariant.going
     c.in_err-write_out.field-0.0 (given c.read.new.self) (taken c.write_out-in-loop-piece.new.writer) piece _ (failed c.loop-count.writer) (failed c.write_out-in-loop-piece.new.writer) bytes
     (answering_fails c.loop-count.receiver piece (taken c.loop-count.writer) (taken c.loop-piece.writer) c.loop-piece.receiver c.loop-piece.piece.now c.loop-piece.invariant.going
     c.in_err-write_out.field-0.0 (taken c.write_out-in-loop-piece.new.writer) c.as_slice-in-loop-piece.result.now whole.0 (failed c.loop-count.writer) (failed c.write_out-in-loop-piece.new.writer)
@@ -64,8 +64,8 @@ returns-in_err-taken-clause-text g c =
     let bytes = rw split at c.in-Ok.ensures.bytes in
     let whole = c.receive-received.ensures.whole in
     let text = said_alone _ _ _ c.loop-piece.invariant.none whole.1 in
-    by_fault c.from_residual-in_err-taken.result Memory c.args.levels (ended c.read.new.self) _ _ _ _ (search rules)
-    (ends_piece c.args.levels (ended c.read.new.self) (given c.args.reader.now) (given c.loop-count.reader) (taken c.args.writer.now) (taken c.loop-count.writer) c.loop-count.receiver c.loop-count.left c.loop-count.invariant.going
+    by_fault c.from_residual-in_err-taken.result Memory c.args.receiver.now.world (ended c.read.new.self) _ _ _ _ (search rules)
+    (ends_piece c.args.receiver.now.world (ended c.read.new.self) (given c.args.reader.now) (given c.loop-count.reader) (taken c.args.writer.now) (taken c.loop-count.writer) c.loop-count.receiver c.loop-count.left c.loop-count.invariant.going
     Memory (given c.read.new.self) (taken c.write_out-in-loop-piece.new.writer) piece _ (failed c.loop-count.writer) (failed c.write_out-in-loop-piece.new.writer) bytes
     (answering_whole c.loop-count.receiver piece (taken c.loop-count.writer) (taken c.loop-piece.writer) c.loop-piece.receiver c.loop-piece.piece.now c.loop-piece.invariant.going
     (taken c.write_out-in-loop-piece.new.writer) c.as_slice-in-loop-piece.result.now whole.0 (failed c.loop-count.writer) (failed c.write_out-in-loop-piece.new.writer)
@@ -111,7 +111,7 @@ returns-then-count-left-clause-text g c =
     let split = piece_splits c.min.result c.in-Ok.count c.read.new.buffer (omega (arith, within, c.if-count-left.true)) in
     let bytes = rw split at c.in-Ok.ensures.bytes in
     let front = length-take-le c.min.result c.read.new.buffer (omega (arith, within, all, c.if-count-left.true)) in
-    ends_too_long c.args.levels (ended c.read.new.self) (given c.args.reader.now) (given c.loop-count.reader) (taken c.args.writer.now) (taken c.loop-count.writer) c.loop-count.receiver c.loop-count.left c.loop-count.invariant.going
+    ends_too_long c.args.receiver.now.world (ended c.read.new.self) (given c.args.reader.now) (given c.loop-count.reader) (taken c.args.writer.now) (taken c.loop-count.writer) c.loop-count.receiver c.loop-count.left c.loop-count.invariant.going
     (given c.read.new.self) (taken c.loop-piece.writer) piece (take (c.in-Ok.count - c.min.result) (drop c.min.result c.read.new.buffer)) _ bytes refl ends.0
     (front ∙ within) (behind_some c.min.result c.in-Ok.count c.read.new.buffer (omega (arith, within, c.if-count-left.true)) all)
 
@@ -129,7 +129,7 @@ loop-count-preserved g c =
     let bytes = rw (← within) at c.in-Ok.ensures.bytes in
     let front = length-take-le c.min.result c.read.new.buffer (omega (arith, within, all)) in
     record {
-      going = goes_on c.args.levels (ended c.read.new.self) (given c.args.reader.now) (given c.loop-count.reader) (taken c.args.writer.now) (taken c.loop-count.writer) c.loop-count.receiver c.loop-count.left c.loop-count.invariant.going
+      going = goes_on c.args.receiver.now.world (ended c.read.new.self) (given c.args.reader.now) (given c.loop-count.reader) (taken c.args.writer.now) (taken c.loop-count.writer) c.loop-count.receiver c.loop-count.left c.loop-count.invariant.going
           (given c.read.new.self) (taken c.loop-piece.writer) piece _ c.loop-piece.receiver (c.loop-count.left - c.in-Ok.count)
           bytes refl ends.1 ends.0 (omega (arith, front, within, c.if-count-left.false));
       none = c.loop-piece.invariant.none;

@@ -1,6 +1,7 @@
+use Rattle.std.proofs.Math.Path.{transport}
 use Rattle.std.proofs.Common.{◌++◌, ◌∙◌, ◌∷◌, [], Ok, ap, sym, subst}
 use Rattle.tq_txn.specs.declared.asker.Exchange.TheVariants as exchanges
-use Rattle.tq_cluster.specs.Told.{AreOfParts, CallerView}
+use Rattle.tq_cluster.specs.Told.{AreOfParts, CallerView, IsToldByDesk}
 use Rattle.tq_cluster.proofs.OfParts.{desk_told}
 use Rattle.tq_cluster.proofs.cluster.Cluster.ask_desk.Goals as goal
 
@@ -13,4 +14,9 @@ returns-clause-exchanges g c =
 pub invariant_of-caller-2 : goal.invariant_of-caller-2
 invariant_of-caller-2 g c =
     let asked = c.ask_part.ensures in
-    (c.caller.invariant.0, subst AreOfParts (sym asked.exchanges) (desk_told c.caller.inside.told.items c.args.ask c.ask_part.result c.caller.invariant.1 asked.same asked.reply asked.fault))
+    (c.caller.invariant.0, subst (AreOfParts c.caller.inside.levels) (sym asked.exchanges) (desk_told c.caller.inside.levels c.self.inside.limits c.caller.inside.told.items c.args.ask c.ask_part.result c.caller.invariant.1 asked.same asked.reply asked.fault))
+
+pub returns-clause-reply : goal.returns-clause-reply
+returns-clause-reply g c =
+    let entry = c.in_ok-entry.entry in
+    transport (λ i. IsToldByDesk (c.caller.view_is i).levels (c.self.view_is i).limits entry.number entry.ask entry.reply) c.in_ok-entry.ensures.reply

@@ -1,7 +1,8 @@
+use Rattle.std.proofs.Math.Path.{transport}
 use Rattle.std.proofs.Common.{◌<◌, ◌-◌, ◌∙◌, ◌++◌, ◌∷◌, [], Ok, ℕ, length, rules, set, ap, sym, subst, arith}
 use Rattle.tq_shape.specs.Tree.{IsServer}
 use Rattle.tq_shape.specs.declared.part.Part.TheVariants as parts
-use Rattle.tq_cluster.specs.Told.{AreOfParts, CallerView}
+use Rattle.tq_cluster.specs.Told.{AreOfParts, CallerView, IsToldByServer}
 use Rattle.std.proofs.lemmas.List.{length-set}
 use Rattle.tq_cluster.proofs.OfParts.{server_told}
 use Rattle.tq_txn.specs.declared.asker.Exchange.TheVariants as exchanges
@@ -72,5 +73,10 @@ invariant_of-caller-2 g c =
     let many = length-set c.caller.inside.servers.items (number - 1) c.ask_part.new.pass in
     let before = c.caller.invariant.0 in (
       omega (arith, many, before),
-      subst AreOfParts (sym asked.exchanges) (server_told number c.caller.inside.told.items c.args.ask c.ask_part.result c.caller.invariant.1 asked.same asked.reply asked.fault),
+      subst (AreOfParts c.caller.inside.levels) (sym asked.exchanges) (server_told c.caller.inside.levels number c.caller.inside.told.items c.args.ask c.ask_part.result c.caller.invariant.1 asked.same asked.reply asked.fault),
     )
+
+pub returns-clause-reply : goal.returns-clause-reply
+returns-clause-reply g c =
+    let entry = c.in_ok-entry.entry in
+    transport (λ i. IsToldByServer (c.caller.view_is i).levels (c.number-number.ensures.value i) entry.number entry.ask entry.reply) c.in_ok-entry.ensures.reply

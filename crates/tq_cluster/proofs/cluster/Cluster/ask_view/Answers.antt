@@ -1,6 +1,7 @@
+use Rattle.std.proofs.Math.Path.{transport}
 use Rattle.std.proofs.Common.{◌++◌, ◌∙◌, ◌∷◌, [], Ok, ap, sym, subst}
 use Rattle.tq_txn.specs.declared.asker.Exchange.TheVariants as exchanges
-use Rattle.tq_cluster.specs.Told.{AreOfParts, CallerView}
+use Rattle.tq_cluster.specs.Told.{AreOfParts, CallerView, IsToldByView}
 use Rattle.tq_cluster.proofs.OfParts.{view_told}
 use Rattle.tq_cluster.proofs.cluster.Cluster.ask_view.Goals as goal
 
@@ -13,4 +14,9 @@ returns-clause-exchanges g c =
 pub invariant_of-caller-2 : goal.invariant_of-caller-2
 invariant_of-caller-2 g c =
     let asked = c.ask_part.ensures in
-    (c.caller.invariant.0, subst AreOfParts (sym asked.exchanges) (view_told c.caller.inside.told.items c.args.ask c.ask_part.result c.caller.invariant.1 asked.same asked.reply asked.fault))
+    (c.caller.invariant.0, subst (AreOfParts c.caller.inside.levels) (sym asked.exchanges) (view_told c.caller.inside.levels c.caller.inside.told.items c.args.ask c.ask_part.result c.caller.invariant.1 asked.same asked.reply asked.fault))
+
+pub returns-clause-reply : goal.returns-clause-reply
+returns-clause-reply g c =
+    let entry = c.in_ok-entry.entry in
+    transport (λ i. IsToldByView (c.caller.view_is i).levels entry.number entry.ask entry.reply) c.in_ok-entry.ensures.reply

@@ -1,12 +1,13 @@
-use Rattle.std.proofs.Common.{◌∙◌, ap, sym, subst}
+use Rattle.std.proofs.Common.{◌∙◌, ◌-◌, ◌^◌, [], ◌∷◌, Err, inl, inr, refl, ap, sym, subst}
 use Rattle.tq_shape.specs.declared.part.Part.TheVariants as parts
 use Rattle.tq_tables.specs.Journals.{JournalsView}
 use Rattle.tq_mirror.specs.Prefixes.{IsPullFault}
 use Rattle.tq_cluster.specs.Told.{CallerView, seen_of}
-use Rattle.tq_cluster.specs.Pulls.{Continues}
+use Rattle.tq_cluster.specs.Pulls.{Continues, servers_from}
 use Rattle.tq_cluster.proofs.Seen.{sees-on-after}
 use Rattle.tq_cluster.proofs.Pulled.{continues-grown, continues-after, seen-after}
 use Rattle.tq_cluster.proofs.Came.{before-desk, came, ended-after, ended-at, goes-after, goes-grown, goes-same, rises}
+use Rattle.tq_cluster.proofs.InTurn.{is-pulled, is-not-pulled, last-pulled, not-all-pulled, then-pulled}
 use Rattle.tq_cluster.proofs.live_board.LiveBoard.pull.Goals as goal
 
 pub returns-clause-continues : goal.returns-clause-continues
@@ -77,3 +78,24 @@ returns-clause-saw g c =
     let middle = subst (λ (o : JournalsView). Continues c.args.self.now o) (sym grew.1) (continues-grown c.args.self.now c.pull_servers.new.self parts.Desk grew.0 c.pull_servers.ensures.continues) in
     came c.args.self.now c.pull_part.new.self c.pull_part-2.new.self c.args.caller.now c.pull_part.new.caller c.pull_part-2.new.caller with_desk middle
     parts.View (goes-after c.pull_part.new.self c.pull_part-2.new.self parts.View c.pull_part-2.result c.pull_part-2.ensures.grown c.pull_part-2.ensures.err) c.pull_part-2.ensures.saw c.pull_part-2.ensures.others
+
+pub returns-in-Err-clause-pulls : goal.returns-in-Err-clause-pulls
+returns-in-Err-clause-pulls g c =
+    not-all-pulled (servers_from 1 (2 ^ c.args.cluster.now.levels - 1)) (parts.Desk ∷ parts.View ∷ []) c.args.self.now c.pull_servers.new.self c.args.caller.now c.pull_servers.new.caller c.in-Err.fault c.in-Err.ensures.pulls
+
+pub returns-in-Err-pull_part-clause-pulls : goal.returns-in-Err-pull_part-clause-pulls
+returns-in-Err-pull_part-clause-pulls g c =
+    let fault = c.in-Err-pull_part.fault in
+    then-pulled (servers_from 1 (2 ^ c.args.cluster.now.levels - 1)) (parts.Desk ∷ parts.View ∷ []) c.args.self.now c.pull_servers.new.self c.pull_part.new.self c.args.caller.now c.pull_servers.new.caller c.pull_part.new.caller (Err fault) c.in-Ok.ensures.pulls
+    (inl (fault, refl, is-not-pulled parts.Desk c.pull_servers.new.self c.pull_part.new.self c.pull_servers.new.caller c.pull_part.new.caller c.pull_part.ensures.saw c.pull_part.ensures.others fault c.in-Err-pull_part.ensures.err c.in-Err-pull_part.ensures.fault))
+
+pub returns-clause-pulls : goal.returns-clause-pulls
+returns-clause-pulls g c =
+    let end = c.pull_part-2.result in
+    then-pulled (servers_from 1 (2 ^ c.args.cluster.now.levels - 1)) (parts.Desk ∷ parts.View ∷ []) c.args.self.now c.pull_servers.new.self c.pull_part-2.new.self c.args.caller.now c.pull_servers.new.caller c.pull_part-2.new.caller end c.in-Ok.ensures.pulls
+    (inr (
+      c.pull_part.new.self,
+      c.pull_part.new.caller,
+      is-pulled parts.Desk c.pull_servers.new.self c.pull_part.new.self c.pull_servers.new.caller c.pull_part.new.caller c.pull_part.ensures.saw c.pull_part.ensures.others c.in-Ok-pull_part.ensures.grown c.in-Ok-pull_part.ensures.seen,
+      last-pulled parts.View c.pull_part.new.self c.pull_part-2.new.self c.pull_part.new.caller c.pull_part-2.new.caller c.pull_part-2.ensures.saw c.pull_part-2.ensures.others end c.pull_part-2.ensures.grown c.pull_part-2.ensures.seen c.pull_part-2.ensures.err c.pull_part-2.ensures.fault,
+    ))

@@ -1,4 +1,4 @@
-use Rattle.std.proofs.Common.{◌≡◌, ◌∙◌, ◌<◌, ◌++◌, length, ap, sym, subst}
+use Rattle.std.proofs.Common.{◌≡◌, ◌∙◌, ◌<◌, ◌+◌, ◌++◌, length, ap, sym, subst}
 use Rattle.std.proofs.lemmas.List.Elements.{All-set}
 use Rattle.tq_txn.specs.States.{levels_of}
 use Rattle.tq_syntax.specs.declared.line.Line.TheVariants as lines
@@ -25,9 +25,10 @@ pub returns-in_ok-answer_txn-in-Some : goal.returns-in_ok-answer_txn-in-Some
 returns-in_ok-answer_txn-in-Some c =
     let before = c.args.text.now.items in
     let line = lines.Txn c.in-Txn.number c.in-Txn.line in
-    let w : World = record { journals = c.self.inside.recorder.journals; known = record { levels = c.self.inside.levels; limits = c.self.inside.limits; txns = c.self.inside.txns.items } } in
+    let w : World = record { journals = c.self.inside.recorder.journals; known = record { levels = c.self.inside.levels; limits = c.self.inside.limits; others = c.self.inside.others; txns = c.self.inside.txns.items } } in
     let less : c.in-Some.place < length c.self.inside.txns.items = subst (λ (v : World). c.in-Some.place < length v.known.txns) (sym c.self.view_is) c.in-Some.ensures.some.1 in
-    let end = txn_answered w c.in-Txn.number c.in-Some.place c.in-Txn.line c.index_mut-kept.result.now c.answer_txn.new.kept c.answer_txn.new.recorder.journals before c.answer_txn.new.text.items c.in-Some.ensures.some.0 less c.index_mut-kept.ensures.value c.in_ok-answer_txn-in-Some.ensures.answered in
+    let number : c.in-Txn.number ≡ c.self.inside.others + c.in-Some.place + 1 = subst (λ (v : World). c.in-Txn.number ≡ v.known.others + c.in-Some.place + 1) (sym c.self.view_is) c.in-Some.ensures.some.0 in
+    let end = txn_answered w c.in-Txn.number c.in-Some.place c.in-Txn.line c.index_mut-kept.result.now c.answer_txn.new.kept c.answer_txn.new.recorder.journals before c.answer_txn.new.text.items number less c.index_mut-kept.ensures.value c.in_ok-answer_txn-in-Some.ensures.answered in
     let text = end.0 ∙ ap (λ (v : World). before ++ (answer v line).text) c.self.view_is in
     record {
       text = rw c.in-Txn.is text;

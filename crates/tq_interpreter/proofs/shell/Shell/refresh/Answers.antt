@@ -7,7 +7,7 @@ use Rattle.tq_interpreter.proofs.shell.Shell.refresh.Goals as goal
 
 pub returns : goal.returns
 returns c =
-    let known : Known = record { levels = c.self.inside.levels; limits = c.self.inside.limits; txns = c.self.inside.txns.items } in
+    let known : Known = record { levels = c.self.inside.levels; limits = c.self.inside.limits; others = c.self.inside.others; txns = c.self.inside.txns.items } in
     let said = refresh_answered c.self.inside.recorder.journals known in
     record {
       text = c.in_ok-refresh_all.ensures.text ∙ ap (λ t. c.args.text.now.items ++ t) (said.0 ∙ ap (λ (w : World). (answer w Refresh).text) c.self.view_is);

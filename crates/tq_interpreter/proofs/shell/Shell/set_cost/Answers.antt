@@ -12,7 +12,7 @@ use Rattle.tq_interpreter.proofs.shell.Shell.set_cost.Goals as goal
 
 pub returns : goal.returns
 returns c =
-    let known : Known = record { levels = c.self.inside.levels; limits = c.self.inside.limits; txns = c.self.inside.txns.items } in
+    let known : Known = record { levels = c.self.inside.levels; limits = c.self.inside.limits; others = c.self.inside.others; txns = c.self.inside.txns.items } in
     let ask : ViewAsk = asks.SetCost c.args.server c.args.read c.args.write in
     let ran = answered_by (view_line ask) (view_end known ok_text) c.self.inside.recorder c.view-answer.new.self (line_result c.view-answer.result) tt c.show_replayed.ensures c.show_replayed-2.ensures c.view-answer.ensures.tree (asked_view ask c.view-answer.result c.self.inside.recorder.told c.view-answer.new.self.told c.view-answer.ensures.exchanges c.view-answer.ensures.same) c.in_ok-say_ok.ensures.memory in
     record {

@@ -12,7 +12,7 @@ use Rattle.tq_interpreter.proofs.shell.Shell.set_mark.Goals as goal
 
 pub returns : goal.returns
 returns c =
-    let known : Known = record { levels = c.self.inside.levels; limits = c.self.inside.limits; txns = c.self.inside.txns.items } in
+    let known : Known = record { levels = c.self.inside.levels; limits = c.self.inside.limits; others = c.self.inside.others; txns = c.self.inside.txns.items } in
     let result = line_result c.mark_server-answer.result in
     let ran = answered_by (mark_line c.args.id.number c.args.up) (view_end known (marked_text c.args.id.number c.args.up)) c.self.inside.recorder c.mark_server-answer.new.asker result tt
     c.show_replayed.ensures c.show_replayed-2.ensures c.mark_server-answer.ensures.tree c.mark_server-answer.ensures.asks c.in_ok-say_marked.ensures.memory in

@@ -1,0 +1,5 @@
+pub mod LineLaws
+pub mod ReplayLaws
+pub mod ServeLaws
+pub mod BatchLaws
+pub mod HostLaws

@@ -1,5 +1,0 @@
-use Rattle.std.proofs.Common.{[]}
-use Rattle.tq_interpreter.proofs.told.nothing.Given as goal
-
-abbrev pub ghost-of : goal.ghost-of
-ghost-of a = []
