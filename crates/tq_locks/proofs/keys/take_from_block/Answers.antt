@@ -3,7 +3,7 @@ use Rattle.std.specs.List.{insert}
 use Rattle.std.proofs.lemmas.List.{length-set, set-get_or}
 use Rattle.tq_locks.specs.Keys.{turn, turned_keys}
 use borrow.Rule.Slice.PartMut.{put_mid}
-use Rattle.tq_locks.proofs.Rings.{length-turn, not_turned, behind_others}
+use Rattle.tq_locks.proofs.Rings.{length-turn, behind_others}
 use Rattle.tq_locks.proofs.Blocks.{written_over, length-block, at_end}
 use Rattle.tq_locks.proofs.keys.take_from_block.Goals as goal
 
