@@ -267,7 +267,12 @@ fn has_row_at(rows: &BoundedIndexMap<FileName, FileRow>, place: usize, file: &Fi
 
 /// In the row at the place, if there is one, the server is current or stale as its copy says. It takes no memory.
 #[inline(always)]
-fn set_currency_in(rows: &mut BoundedIndexMap<FileName, FileRow>, place: usize, node: &Node, least: u64)
+fn set_currency_in(
+    rows: &mut BoundedIndexMap<FileName, FileRow>,
+    place: usize,
+    node: &Node,
+    least: u64,
+)
     requires least { spec.ReachesRowAt rows.old.entries place node.now least }
     requires levels { spec.FitsRowAt rows.old.entries place node.now }
     ensures { spec.StandsAt rows.old.entries rows.new.entries place node.now }
