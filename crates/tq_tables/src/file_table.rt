@@ -180,7 +180,7 @@ impl FileTable {
         ensures found { result ≡ has_row self.old.rows file.now }
     {
         let last = self.last;
-        if has_row_at(&self.rows, last, file) {
+        if has_row_at(self.rows(), last, file) {
             self.set_currency_at(last, node, file, least);
             return true;
         }
@@ -256,11 +256,11 @@ impl FileTable {
 
 /// Whether the row of the file stands at the place.
 #[inline(always)]
-fn has_row_at(rows: &BoundedIndexMap<FileName, FileRow>, place: usize, file: &FileName) -> bool
-    ensures { OnTrue result (HasRowAt rows.now.entries place file.now) }
+fn has_row_at(rows: &[FileRow], place: usize, file: &FileName) -> bool
+    ensures { OnTrue result (HasRowAt (by_file rows.now) place file.now) }
 {
-    match rows.get_index(place) {
-        Some(entry) => *entry.0 == *file,
+    match rows.get(place) {
+        Some(row) => row.file == *file,
         None => false,
     }
 }
