@@ -50,7 +50,8 @@ impl Wire for Node {
         ask: &NodeAsk,
         given: &NodeReply,
     ) -> Result<String, Memory> {
-        entry_to_json(alloc, ask, given)
+        let line = entry_to_json(alloc, ask, given)?;
+        Ok(line)
     }
 
     fn line_of_told(alloc: Global, number: u64, given: &NodeReply) -> Result<String, Memory> {
@@ -96,7 +97,8 @@ impl Wire for Desk {
         ask: &DeskAsk,
         given: &DeskReply,
     ) -> Result<String, Memory> {
-        entry_to_json(alloc, ask, given)
+        let line = entry_to_json(alloc, ask, given)?;
+        Ok(line)
     }
 
     fn line_of_told(alloc: Global, number: u64, given: &DeskReply) -> Result<String, Memory> {
@@ -142,7 +144,8 @@ impl Wire for View {
         ask: &ViewAsk,
         given: &ViewReply,
     ) -> Result<String, Memory> {
-        entry_to_json(alloc, ask, given)
+        let line = entry_to_json(alloc, ask, given)?;
+        Ok(line)
     }
 
     fn line_of_told(alloc: Global, number: u64, given: &ViewReply) -> Result<String, Memory> {

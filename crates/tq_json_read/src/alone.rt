@@ -7,7 +7,7 @@ ghost use Rattle.tq_json_read.specs.Plans.{plan_alone};
 use crate::parts::FromReader;
 use crate::plan::Plan;
 use crate::read::whole_text;
-use std::alloc::Global;
+use std::alloc::{AllocError, Global};
 use tq_json::{Format, NotRead, Scratch, text_of_bytes};
 use tq_shape::{Levels, MOST_ENTRIES, Memory};
 
@@ -33,6 +33,6 @@ pub fn value_from_json<'a, T: FromReader<'a>>(
     match whole_text(alloc, &plan, text, scratch) {
         Ok(value) => Ok(value),
         Err(NotRead::NotJson) => Ok(None),
-        Err(NotRead::Memory) => Err(Memory),
+        Err(NotRead::Memory) => Err(AllocError),
     }
 }

@@ -59,6 +59,7 @@ pub fn answer_to_json<R: ToJson>(alloc: Global, number: u64, reply: &R) -> Resul
     let mut out = Text::new(alloc);
     put_after(&mut out, "{\"number\":", &number)?;
     put_after(&mut out, ",\"reply\":", reply)?;
-    out.push("}\n")?;
+    out.push("}")?;
+    out.push("\n")?;
     Ok(out.into_string())
 }
