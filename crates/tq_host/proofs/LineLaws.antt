@@ -4,6 +4,7 @@ use Rattle.std.proofs.lemmas.List.{append-nil, take_all}
 use Rattle.std.proofs.lemmas.Bool.{ne_eqb}
 use Rattle.std.proofs.Math.Seq.{take-add}
 use Rattle.memchr.specs.Find.{Nowhere, Passes, is_byte}
+use Rattle.tq_json_write.proofs.Unbroken.{no-feed-append}
 use Rattle.tq_host.specs.Lines.{HasNoFeed, IsLine, AreLines, text_of}
 
 pub no-feed : (bytes : List ℕ) (place : ℕ) → Nowhere (Passes (is_byte 10) bytes) 0 place → HasNoFeed (take place bytes)
@@ -19,10 +20,6 @@ pub no-feed-behind : (bytes : List ℕ) (from : ℕ) → Nowhere (Passes (is_byt
 no-feed-behind bytes zero none = no-feed-at-all bytes none
 no-feed-behind [] (suc from) none = tt
 no-feed-behind (byte ∷ bytes) (suc from) none = no-feed-behind bytes from (λ k low less. none (suc k) (omega (arith, low)) (omega (arith, less)))
-
-pub no-feed-append : (xs ys : List ℕ) → HasNoFeed xs → HasNoFeed ys → HasNoFeed (xs ++ ys)
-no-feed-append [] ys p q = q
-no-feed-append (x ∷ xs) ys p q = (p.0, no-feed-append xs ys p.1 q)
 
 pub take-few : (count : ℕ) (bytes : List ℕ) → length (take count bytes) ≤ count
 take-few zero bytes = omega arith

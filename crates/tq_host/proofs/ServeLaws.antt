@@ -9,7 +9,7 @@ use Rattle.tq_host.specs.Lines.{HasNoFeed, IsLine}
 use Rattle.tq_host.specs.Told.{Told, entered, bad, full, memory, Exchange, AreTold, IsTold, asked_text, logged_text, answered_text, standing_after, goes_on, log_line, answer_line}
 use Rattle.tq_host.specs.Replay.{IsLogOf}
 use Rattle.tq_host.specs.Kept.{Batched, nothing_left, with_told, IsHalfOut}
-use Rattle.tq_host.proofs.LineLaws.{no-feed-append}
+use Rattle.tq_json_write.proofs.Unbroken.{no-feed-append}
 use Rattle.tq_host.specs.Served.{Restarts, IsServing, IsAllServed, IsCutOff}
 
 again : (P : Option (List ℕ) → Type 0) (now then : Option (List ℕ)) → then ≡ now → P now → P then

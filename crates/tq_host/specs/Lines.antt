@@ -1,16 +1,6 @@
 -- Lines of bytes, each with the line feed that ends it.
 use Rattle.std.specs.Prelude.{◌≡◌, ℕ, List, [], ◌∷◌, ◌++◌, ⊤}
-
--- no byte is a line feed
-abbrev pub HasNoFeed : List ℕ → Type 0
-HasNoFeed [] = ⊤
-HasNoFeed (byte ∷ bytes) = (byte ≡ 10 → ⊥) × HasNoFeed bytes
-
--- bytes without a line feed, and a line feed
-pub record IsLine (text : List ℕ) : Type 0 where
-  pub bytes : List ℕ
-  pub unbroken : HasNoFeed bytes
-  pub ended : text ≡ bytes ++ 10 ∷ []
+pub use Rattle.tq_json_write.specs.Lines.{HasNoFeed, IsLine}
 
 -- the lines one behind another; in the list, as in those below, the newest stands first
 abbrev pub text_of : List (List ℕ) → List ℕ

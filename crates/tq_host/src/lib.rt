@@ -10,6 +10,7 @@ mod file_log;
 mod hosting;
 mod log;
 mod memory_log;
+mod parts;
 mod replaying;
 mod serving;
 mod wire;

@@ -1,6 +1,7 @@
 pub mod Memberships
 pub mod Held
 pub mod Formats
+pub mod Once
 mod Rows
 mod Places
 mod Limited

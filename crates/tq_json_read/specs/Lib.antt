@@ -11,3 +11,4 @@ pub mod Objects
 pub mod Slots
 pub mod Faults
 pub mod Formats
+pub mod Alone

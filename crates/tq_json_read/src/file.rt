@@ -14,7 +14,7 @@ use crate::object::take_object;
 use crate::parts::{FromReader, Taken, take_list};
 use crate::plan::Plan;
 use std::alloc::Global;
-use tq_json::{Format, NotRead, Reader};
+use tq_json::{Format, Reader};
 use tq_shape::{Levels, Limits, MOST_ENTRIES, MOST_FILES, MOST_OPS, Memory, Seq};
 use tq_tables::{DeskEntry, Journals, NodeEntry, ViewEntry};
 
@@ -107,7 +107,7 @@ fn lists_of(servers: Option<ServerJournals>) -> Option<Seq<Seq<NodeEntry>>>
     Some(servers.lists)
 }
 
-/// What stands in a file.
+/// What stands in a file, if it is an object; else nothing.
 #[derive(Drop)]
 pub(crate) struct FileFields {
     desk: Option<Seq<DeskEntry>>,
@@ -120,30 +120,29 @@ pub(crate) struct FileFields {
 
 const FILE_NAMES: &[&str] = &["desk", "format", "levels", "limits", "servers", "view"];
 
-/// What stands in the file that the next value is.
-pub(crate) fn take_file(
-    alloc: Global,
-    plan: &Plan,
-    reader: &mut Reader<'_>,
-    depth: usize,
-) -> Result<FileFields, NotRead>
-    ensures ok { IfOk result
-        (Found (λ d fields. fields ≡ slots.file_fields plan.now (names_of d))
-        (next depth reader.old) reader.new) }
-    ensures err { result ≡ Err NotRead.NotJson → next depth reader.old ≡ None }
-    ensures shorter { OnOk result (length reader.new < length reader.old) }
-{
-    let (desk, (format, (levels, (limits, (servers, (view, ())))))) = take_object(
-        alloc, plan, FILE_NAMES, reader, depth,
-    )?;
-    Ok(FileFields {
-        desk,
-        format,
-        levels,
-        limits,
-        servers: lists_of(servers),
-        view,
-    })
+impl<'a> FromReader<'a> for FileFields {
+    ghost at = { λ plan. made_by (λ d. Some (slots.file_fields plan (names_of d))) };
+
+    ghost none = { λ plan. refl };
+
+    fn read(
+        alloc: Global,
+        plan: &Plan,
+        reader: &mut Reader<'a>,
+        depth: usize,
+    ) -> Taken<FileFields> {
+        let (desk, (format, (levels, (limits, (servers, (view, ())))))) = take_object(
+            alloc, plan, FILE_NAMES, reader, depth,
+        )?;
+        Ok(Some(FileFields {
+            desk,
+            format,
+            levels,
+            limits,
+            servers: lists_of(servers),
+            view,
+        }))
+    }
 }
 
 fn levels_of(format: Format, number: Option<u64>) -> Option<Levels>

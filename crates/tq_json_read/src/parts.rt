@@ -10,10 +10,10 @@ use tq_json::{NotRead, Reader, open_array, pass_items};
 use tq_shape::Seq;
 
 /// What the next value was found to be: `None` where it is not of the form.
-pub(crate) type Taken<T> = Result<Option<T>, NotRead>;
+pub type Taken<T> = Result<Option<T>, NotRead>;
 
 /// What can be read from a reader.
-pub(crate) trait FromReader<'a>: Sized + Drop {
+pub trait FromReader<'a>: Sized + Drop {
     ghost use Rattle.std.specs.Prelude.{◌≡◌, ◌<◌, length, Option, Some, None, Err, IfOk, OnOk};
     ghost use Rattle.serde_json.specs.Data.{Data};
     ghost use Rattle.tq_json_read.specs.declared.plan.Plan.{Plan};

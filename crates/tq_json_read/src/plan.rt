@@ -8,7 +8,7 @@ pub(crate) const MAX_DEPTH: usize = 127;
 
 /// What the entries of a file are read by.
 #[derive(Clone, Copy, Debug, PartialEq, Eq)]
-pub(crate) struct Plan {
+pub struct Plan {
     /// The format of the file.
     pub(crate) format: Format,
     /// How many levels the tree has.

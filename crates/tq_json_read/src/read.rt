@@ -1,16 +1,16 @@
 //! `journals_from_json`.
 
-ghost use Rattle.std.specs.Prelude.{◌≡◌, None, Err, IfOk};
+ghost use Rattle.std.specs.Prelude.{◌≡◌, Some, None, Err, IfOk};
 ghost use Rattle.serde_json.specs.Read.{read};
 ghost use Rattle.tq_json_read.specs.Faults.{Answers};
 ghost use Rattle.tq_json_read.specs.Formats.{AreBothRead};
 ghost use Rattle.tq_json_read.specs.Frame as spec;
-ghost use Rattle.tq_json_read.specs.Objects.{names_of};
 ghost use Rattle.tq_json_read.specs.Slots as slots;
 
 use crate::fault::ReadFault;
-use crate::file::{FileFields, journals_from, take_file};
+use crate::file::{FileFields, journals_from};
 use crate::glance::first_plan;
+use crate::parts::{FromReader, Taken};
 use crate::plan::{MAX_DEPTH, Plan};
 use std::alloc::Global;
 use tq_json::{NotRead, Reader, Scratch, text_of_bytes};
@@ -79,23 +79,23 @@ fn file_answer(reading: Reading) -> Result<Journals, ReadFault>
     }
 }
 
-/// What stands in the file, read by the plan.
-fn fields_of(
+/// What the form makes of the value that a whole text is, by a plan: `None` where it is not of the form. White space may stand round it.
+pub(crate) fn whole_text<'a, T: FromReader<'a>>(
     alloc: Global,
     plan: &Plan,
-    text: &str,
-    scratch: &mut Scratch,
-) -> Result<FileFields, NotRead>
+    text: &'a str,
+    scratch: &'a mut Scratch,
+) -> Taken<T>
     ensures ok { IfOk result
-        (slots.IsOfText (λ d fields. fields ≡ slots.file_fields plan.now (names_of d)) text.now) }
+        (slots.IsOfText (λ d item. item ≡ T.at plan.now (Some d)) text.now) }
     ensures err { result ≡ Err NotRead.NotJson → read text.now ≡ None }
 {
     let mut reader = Reader::new(text, scratch)?;
-    let fields = take_file(alloc, plan, &mut reader, MAX_DEPTH)?;
+    let item = T::read(alloc, plan, &mut reader, MAX_DEPTH)?;
     if reader.next().is_some() {
         return Err(NotRead::NotJson);
     }
-    Ok(fields)
+    Ok(item)
 }
 
 /// The journals of the file, where it gives this plan.
@@ -109,7 +109,9 @@ fn read_by(
         (slots.IsOfText (λ d reading. slots.IsReading plan.now reading d) text.now) }
     ensures err { result ≡ Err NotRead.NotJson → read text.now ≡ None }
 {
-    let fields = fields_of(alloc, plan, text, scratch)?;
+    let Some(fields) = whole_text::<FileFields>(alloc, plan, text, scratch)? else {
+        return Ok(Reading::NoJournals);
+    };
     let Some(given) = fields.plan() else {
         return Ok(Reading::NoJournals);
     };

@@ -9,4 +9,7 @@ pub mod ReadBack
 pub mod Again
 pub mod Parts
 pub mod Laws
+pub mod Unbroken
+pub mod Deeper
+pub mod LinesBack
 pub mod Members

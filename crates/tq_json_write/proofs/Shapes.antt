@@ -104,7 +104,7 @@ entry-shaped : {A R : Type 0} (levels : ℕ) (ask_value : A → Data) (reply_val
     → (entry : Entry A R) → IsShaped (entry_value ask_value reply_value entry) levels
 entry-shaped levels ask_value reply_value deep a r entry = (deep, (a entry.ask, (r entry.reply, tt)), refl)
 
-node-entry-shaped : (entry : NodeEntry) → IsShaped (nodes.node_entry_value entry) 124
+pub node-entry-shaped : (entry : NodeEntry) → IsShaped (nodes.node_entry_value entry) 124
 node-entry-shaped = entry-shaped 124 nodes.node_ask_value nodes.node_reply_value (omega arith) node-ask-shaped node-reply-shaped
 
 -- ---- the desk
@@ -135,7 +135,7 @@ desk-reply-shaped (desk_reply.Verdict v) = (omega arith, (tt, (verdict-shaped 12
 desk-reply-shaped (desk_reply.Refused r) = desk-refusal-shaped r
 desk-reply-shaped _ = (omega arith, (tt, (tt, tt)), refl)
 
-desk-entry-shaped : (entry : DeskEntry) → IsShaped (desks.desk_entry_value entry) 125
+pub desk-entry-shaped : (entry : DeskEntry) → IsShaped (desks.desk_entry_value entry) 125
 desk-entry-shaped = entry-shaped 125 desks.desk_ask_value desks.desk_reply_value (omega arith) desk-ask-shaped desk-reply-shaped
 
 -- ---- the view
@@ -157,7 +157,7 @@ view-reply-shaped (view_reply.Chosen quorum cost) = (omega arith, (tt, (tt, (ser
 view-reply-shaped (view_reply.Refused r) = view-refusal-shaped r
 view-reply-shaped _ = kind-shaped 124 (omega arith) _
 
-view-entry-shaped : (entry : ViewEntry) → IsShaped (views.view_entry_value entry) 125
+pub view-entry-shaped : (entry : ViewEntry) → IsShaped (views.view_entry_value entry) 125
 view-entry-shaped = entry-shaped 125 views.view_ask_value views.view_reply_value (omega arith) view-ask-shaped view-reply-shaped
 
 -- ---- the journals of all parts

@@ -2,6 +2,7 @@ pub mod Written
 pub mod Spilled
 pub mod Fitting
 pub mod Values
+pub mod Lines
 pub mod Nodes
 pub mod Desks
 pub mod Views

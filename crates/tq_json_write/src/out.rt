@@ -8,7 +8,7 @@ ghost use Rattle.tq_json_write.specs.Written.{Adds};
 use tq_store::FileName;
 
 /// What text is put into, a piece behind another.
-pub(crate) trait Out {
+pub trait Out {
     ghost use Rattle.std.specs.Prelude.{List, ℕ};
     ghost use Rattle.std.specs.Fmt.{decimal};
     ghost use Rattle.std.specs.Str.{IsAscii};

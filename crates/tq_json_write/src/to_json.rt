@@ -64,7 +64,7 @@ fn put_comma<O: Out>(out: &mut O, later: bool) -> Result<(), O::Fault>
 }
 
 /// What the form has a value for, so that it can be written.
-pub(crate) trait ToJson {
+pub trait ToJson {
     ghost use Rattle.std.specs.Prelude.{OnOk};
     ghost use Rattle.serde_json.specs.Data.{Data};
     ghost use Rattle.serde_json.specs.Written.{compact_text};

@@ -1,6 +1,7 @@
 //! Numbers, flags, texts, lists and entries.
+use crate::lines::put_entry;
 use crate::out::{Out, put_content, put_name};
-use crate::to_json::{ToJson, put_after, put_list};
+use crate::to_json::{ToJson, put_list};
 use tq_evidence::Shareable;
 use tq_live::Purpose;
 use tq_locks::Mode;
@@ -181,8 +182,6 @@ impl<A: ToJson, R: ToJson> ToJson for Entry<A, R> {
     ghost sound = { IsEntry A.sound R.sound };
 
     fn put<O: Out>(&self, out: &mut O) -> Result<(), O::Fault> {
-        put_after(out, "{\"ask\":", &self.ask)?;
-        put_after(out, ",\"reply\":", &self.reply)?;
-        out.push("}")
+        put_entry(out, &self.ask, &self.reply)
     }
 }

@@ -1,5 +1,4 @@
 use Rattle.std.proofs.Common.{codes, ap, ◌∙◌}
-use Rattle.serde_json.specs.Find.{get}
 use Rattle.tq_json.specs.Member.{text_at, number_at}
 use Rattle.tq_json_read.specs.Views.{servers_at, view_reply_by}
 use Rattle.tq_json_read.proofs.Short.{reply_read}

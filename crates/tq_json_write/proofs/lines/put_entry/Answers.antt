@@ -1,6 +1,6 @@
 use Rattle.json.specs.Print.{escape_byte}
 use Rattle.tq_json_write.proofs.Chained.{behind}
-use Rattle.tq_json_write.proofs.values.EntryToJson.put.Goals as goal
+use Rattle.tq_json_write.proofs.lines.put_entry.Goals as goal
 
 pub returns-clause-adds : goal.returns-clause-adds
 unfolding escape_byte
