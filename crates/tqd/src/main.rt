@@ -157,7 +157,7 @@ fn ended(rt: &HostRuntime, printed: io::Result<()>, status: u8) -> ExitCode {
 }
 
 /// Where the fault cannot be printed, the status alone tells of it.
-fn say_fault<F: Display>(rt: &HostRuntime, fault: F) -> ExitCode {
+fn say_fault<F: Display + Drop>(rt: &HostRuntime, fault: F) -> ExitCode {
     let _printed = println!(rt; "{fault}");
     ExitCode::from(FAULT)
 }

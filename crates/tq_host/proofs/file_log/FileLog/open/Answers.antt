@@ -6,6 +6,6 @@ use Rattle.tq_host.proofs.file_log.FileLog.open.Goals as goal
 pub returns-clause-whole : goal.returns-clause-whole
 returns-clause-whole g c =
     let text = c.as_slice.result.now in
-    let lines = c.whole_lines.result.now in
-    let front : take (length lines) text ≡ lines = front-is text lines c.whole_lines.ensures.begins in
+    let lines = c.whole_lines-count.result.now in
+    let front : take (length lines) text ≡ lines = front-is text lines c.whole_lines-count.ensures.begins in
     search rules
