@@ -36,7 +36,7 @@ use Rattle.clap.proofs.CallerReads.{signed_reads}
 use Rattle.tq_cli.specs.declared.command.WordsFault.{WordsFault}
 use Rattle.tq_cli.specs.Command.{CanAsk, CanAskBare, CanAskOther, CanBeGiven, IsGivenOrZero, IsRefused, MayHaveNumber, fault_by, fault_for, HasNumber, IsGiven, number_rule, audit_app, shell_app, threads_app, tq_app, upgrade_app}
 use Rattle.tq_cli.proofs.ParseLaws.{Keeps, both_none, level_kept}
-use Rattle.tq_cli.proofs.RuleLaws.{AreNamed, IsClean, help_keeps, other_keeps, row_given, row_or_none, set_keeps, some_kind, taken}
+use Rattle.tq_cli.proofs.RuleLaws.{AreNamed, IsClean, help_keeps, other_keeps, row_given, row_or_none, rows_found, not_found, none_asks, set_keeps, some_kind, sub_by, taken, first_byte}
 
 pub passed_by : (passes : Bool) → cond passes [] (kinds.ValueValidation ∷ []) ≡ [] → passes ≡ true
 passed_by true clean = refl
@@ -178,28 +178,6 @@ threads_have words clean =
       number_or_none rounds 0 1000 rows of_rounds.0,
     )
 
-shell_by : (words : List Text) (is : Bool) (later : Option Shape)
-    → (option_map_or (λ s. level_fault s [] nothing_held words false []) later [] ≡ [] → is_some (option_map (λ s. rows_at s words) later) ≡ true → CanAsk (option_map (λ s. rows_at s words) later))
-    → option_map_or (λ s. level_fault s [] nothing_held words false []) (cond is (Some shell) later) [] ≡ [] → is_some (option_map (λ s. rows_at s words) (cond is (Some shell) later)) ≡ true
-    → CanAsk (option_map (λ s. rows_at s words) (cond is (Some shell) later))
-shell_by words true later asks clean there = inl ((rows_at shell words).1, refl, shell_has_levels words clean)
-shell_by words false later asks clean there = asks clean there
-
-upgrade_by : (words : List Text) (is : Bool) → is_some (option_map (λ s. rows_at s words) (cond is (Some upgrade) None)) ≡ true → CanAsk (option_map (λ s. rows_at s words) (cond is (Some upgrade) None))
-upgrade_by words true there = inr (inr (inr ((rows_at upgrade words).1, refl)))
-upgrade_by words false there = absurd cc
-
-audit_by : (words : List Text) (is : Bool) (later : Option Shape) → (is_some (option_map (λ s. rows_at s words) later) ≡ true → CanAsk (option_map (λ s. rows_at s words) later))
-    → is_some (option_map (λ s. rows_at s words) (cond is (Some audit) later)) ≡ true → CanAsk (option_map (λ s. rows_at s words) (cond is (Some audit) later))
-audit_by words true later asks there = inr (inr (inl ((rows_at audit words).1, refl)))
-audit_by words false later asks there = asks there
-
-threads_by : (words : List Text) (is : Bool) (later : Option Shape) → (is_some (option_map (λ s. rows_at s words) later) ≡ true → CanAsk (option_map (λ s. rows_at s words) later))
-    → option_map_or (λ s. level_fault s [] nothing_held words false []) (cond is (Some threads) later) [] ≡ [] → is_some (option_map (λ s. rows_at s words) (cond is (Some threads) later)) ≡ true
-    → CanAsk (option_map (λ s. rows_at s words) (cond is (Some threads) later))
-threads_by words true later asks clean there = inr (inl ((rows_at threads words).1, refl, threads_have words clean))
-threads_by words false later asks clean there = asks there
-
 stop_asks : (stop : Option (Text × List Text)) → entered_fault (built tq_app) stop ≡ [] → is_some (entered (built tq_app) stop) ≡ true → CanAsk (entered (built tq_app) stop)
 stop_asks None clean there = absurd cc
 stop_asks (Some p) clean there =
@@ -208,7 +186,10 @@ stop_asks (Some p) clean there =
     let is_upgrade = answers_to p.0 (label_of upgrade) in
     let last = cond is_upgrade (Some upgrade) None in
     let later = cond is_audit (Some audit) last in
-    shell_by p.1 (answers_to p.0 (label_of shell)) (cond is_threads (Some threads) later) (λ well. threads_by p.1 is_threads later (audit_by p.1 is_audit last (upgrade_by p.1 is_upgrade)) well) clean there
+    sub_by p.1 CanAsk shell (answers_to p.0 (label_of shell)) (cond is_threads (Some threads) later) (λ c. inl ((rows_at shell p.1).1, refl, shell_has_levels p.1 c))
+    (sub_by p.1 CanAsk threads is_threads later (λ c. inr (inl ((rows_at threads p.1).1, refl, threads_have p.1 c)))
+    (sub_by p.1 CanAsk audit is_audit last (λ c. inr (inr (inl ((rows_at audit p.1).1, refl))))
+    (sub_by p.1 CanAsk upgrade is_upgrade None (λ c. inr (inr (inr ((rows_at upgrade p.1).1, refl)))) (λ c t. none_asks p.1 CanAsk t)))) clean there
 
 -- words without a fault name a subcommand, with the options that it needs
 pub can_ask : (words : List Text) → fault_of tq_app words ≡ [] → CanAsk (subcommand_of tq_app words)
@@ -229,32 +210,6 @@ pub refused_by : {T : Type 0} (app : App) (words : List Text) (error : Error) (r
 refused_by app words error (Ok done) has is = tt
 refused_by app words error (Err fault) has is = subst (IsRefused app words) (sym is) (refused_as app words error (kind_of error) refl has)
 
--- the rows of a subcommand that was found under this name are those that can be read
-threads_rows : (found : Option (Text × List Row)) (rows given : List Row) → found ≡ Some (codes "threads", given) → option_map (λ (p : Text × List Row). p.1) found ≡ Some rows → CanBeGiven given → CanBeGiven rows
-threads_rows found rows given is named can =
-    let same : Some given ≡ Some rows = ap (option_map (λ (p : Text × List Row). p.1)) (sym is) ∙ named in
-    let equal : given ≡ rows = cc in
-    subst CanBeGiven equal can
-
-abbrev first_byte : Option Text → ℕ
-first_byte None = 0
-first_byte (Some text) = get_or text 0 0
-
--- what was found under a name was not found under one with another first byte
-other_name : (name other : Text) (found : Option (Text × List Row)) (given : List Row) → (first_byte (Some name) ≡ first_byte (Some other) → ⊥) → found ≡ Some (name, given) → option_map (λ (p : Text × List Row). p.0) found ≡ Some other → ⊥
-other_name name other found given differ is named =
-    let same : Some name ≡ Some other = ap (option_map (λ (p : Text × List Row). p.0)) (sym is) ∙ named in
-    differ (ap first_byte same)
-
-not_audit : (found : Option (Text × List Row)) (given : List Row) → found ≡ Some (codes "audit", given) → option_map (λ (p : Text × List Row). p.0) found ≡ Some (codes "threads") → ⊥
-not_audit found given is named = other_name (codes "audit") (codes "threads") found given (λ (e : first_byte (Some (codes "audit")) ≡ first_byte (Some (codes "threads"))). omega (arith, e)) is named
-
-not_upgrade : (found : Option (Text × List Row)) (given : List Row) → found ≡ Some (codes "upgrade", given) → option_map (λ (p : Text × List Row). p.0) found ≡ Some (codes "threads") → ⊥
-not_upgrade found given is named = other_name (codes "upgrade") (codes "threads") found given (λ (e : first_byte (Some (codes "upgrade")) ≡ first_byte (Some (codes "threads"))). omega (arith, e)) is named
-
-upgrade_no_audit : (found : Option (Text × List Row)) (given : List Row) → found ≡ Some (codes "upgrade", given) → option_map (λ (p : Text × List Row). p.0) found ≡ Some (codes "audit") → ⊥
-upgrade_no_audit found given is named = other_name (codes "upgrade") (codes "audit") found given (λ (e : first_byte (Some (codes "upgrade")) ≡ first_byte (Some (codes "audit"))). omega (arith, e)) is named
-
 name_of : {Z : Type 0} (sub : Option (Box SubCommand Z)) → option_map (λ (p : Text × List Row). p.0) (subcommand_rows sub) ≡ option_map (λ b. (out-SubCommand (box_value b)).name.now) sub
 name_of None = refl
 name_of (Some sub) = refl
@@ -262,17 +217,20 @@ name_of (Some sub) = refl
 pub name_found : (matches : ArgMatches) → option_map (λ (p : Text × List Row). p.0) (subcommand_rows_of matches) ≡ subcommand_name_of matches
 name_found matches = name_of (out-ArgMatches matches).subcommand
 
+abbrev Any : List Row → Type 0
+Any rows = Unit {0}
+
 pub threads_given : (found : Option (Text × List Row)) (rows : List Row) → CanAskOther found → option_map (λ (p : Text × List Row). p.0) found ≡ Some (codes "threads") → option_map (λ (p : Text × List Row). p.1) found ≡ Some rows → CanBeGiven rows
 threads_given found rows can name is = elim can [
-  | inl threads ↦ threads_rows found rows threads.0 threads.1 is threads.2
+  | inl threads ↦ rows_found (codes "threads") CanBeGiven found rows threads is
   | inr bare ↦ elim bare [
-    | inl audit ↦ absurd (not_audit found audit.0 audit.1 name)
-    | inr upgrade ↦ absurd (not_upgrade found upgrade.0 upgrade.1 name)
+    | inl audit ↦ absurd (not_found (codes "audit") (codes "threads") Any found (λ (e : first_byte (Some (codes "audit")) ≡ first_byte (Some (codes "threads"))). omega (arith, e)) (audit.0, audit.1, tt) name)
+    | inr upgrade ↦ absurd (not_found (codes "upgrade") (codes "threads") Any found (λ (e : first_byte (Some (codes "upgrade")) ≡ first_byte (Some (codes "threads"))). omega (arith, e)) (upgrade.0, upgrade.1, tt) name)
   ]
 ]
 
 pub audit_given : (found : Option (Text × List Row)) → CanAskBare found → option_map (λ (p : Text × List Row). p.0) found ≡ Some (codes "audit") → (rows : List Row) × (found ≡ Some (codes "audit", rows))
 audit_given found can name = elim can [
   | inl audit ↦ audit
-  | inr upgrade ↦ absurd (upgrade_no_audit found upgrade.0 upgrade.1 name)
+  | inr upgrade ↦ absurd (not_found (codes "upgrade") (codes "audit") Any found (λ (e : first_byte (Some (codes "upgrade")) ≡ first_byte (Some (codes "audit"))). omega (arith, e)) (upgrade.0, upgrade.1, tt) name)
 ]

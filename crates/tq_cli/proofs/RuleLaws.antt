@@ -1,16 +1,16 @@
--- What the uses of arguments leave in the rows.
-use Rattle.std.proofs.Common.{◌≡◌, ◌∙◌, ◌⊎◌, inl, inr, ◌++◌, ◌||◌, ℕ, Bool, true, false, not, cond, List, [], ◌∷◌, Option, Some, None, is_some, length, refl, sym, ap, subst, codes}
-use Rattle.std.specs.Prelude.{unwrap_or, nat_lt}
+-- What the uses of arguments leave in the rows, and the subcommands that words name.
+use Rattle.std.proofs.Common.{◌≡◌, ◌∙◌, ◌⊎◌, inl, inr, ◌++◌, ◌||◌, ℕ, Bool, true, false, not, cond, List, [], ◌∷◌, Option, Some, None, is_some, length, refl, sym, ap, subst, codes, get_or}
+use Rattle.std.specs.Prelude.{unwrap_or, nat_lt, option_map}
 use Rattle.std.specs.List.{find}
 use Rattle.std.specs.Option.{option_map_or}
 use Rattle.std.specs.Str.{bytes_eq}
 use Rattle.clap.specs.Facts.{explicit_source, parser_of_value}
 use Rattle.clap.specs.Kinds.{Kinds, check_kinds, range_kinds, values_kinds}
 use Rattle.clap.specs.Values.{reading_of}
-use Rattle.clap.specs.Walk.{Row, Rule, Text, at_row, has_row, more_values, used, with_values, without}
+use Rattle.clap.specs.Walk.{Row, Rule, Text, at_row, has_row, more_values, nothing_held, used, with_values, without}
 use Rattle.clap.specs.Takes.{is_given}
-use Rattle.clap.specs.Simple.{filled, help_rule, with_index}
-use Rattle.clap.specs.Faults.{repeat_fault, set_fault, use_fault}
+use Rattle.clap.specs.Simple.{Shape, filled, help_rule, rows_at, with_index}
+use Rattle.clap.specs.Faults.{level_fault, repeat_fault, set_fault, use_fault}
 use Rattle.clap.specs.declared.builder.value_parser.Reading.{Reading}
 use Rattle.clap.specs.declared.builder.value_parser.ValueParser.{ValueParser}
 use Rattle.clap.specs.declared.builder.value_parser.ValueParser.TheVariants as vp
@@ -18,7 +18,7 @@ use Rattle.clap.specs.declared.error.kind.ErrorKind.{ErrorKind}
 use Rattle.clap.specs.declared.error.kind.ErrorKind.TheVariants as kinds
 use Rattle.clap.specs.declared.parser.matches.ValueSource.{ValueSource}
 use Rattle.clap.specs.declared.parser.matches.ValueSource.TheVariants.{CommandLine}
-use Rattle.tq_cli.specs.Command.{set_rule}
+use Rattle.tq_cli.specs.Command.{IsFound, set_rule}
 use Rattle.tq_cli.proofs.ParseLaws.{Keeps, both_none}
 
 -- a fact of each row
@@ -146,3 +146,39 @@ module _ (name : Text) (Q : List Text → Reading → Type 0) (grows : (values m
   -- the row of what may be given
   pub row_or_none : (rows : List Row) → AreNamed name Q rows → (find (λ r. bytes_eq r.id name) rows ≡ None) ⊎ ((row : Row) × (find (λ r. bytes_eq r.id name) rows ≡ Some row) × Q row.values row.reading)
   row_or_none rows each = may_by rows (find (λ r. bytes_eq r.id name) rows) each refl
+
+-- ---- subcommands
+
+-- a subcommand that the words may name, before others
+module _ (words : List Text) where
+  abbrev IsCleanly : Option Shape → Type 0
+  IsCleanly found = option_map_or (λ s. level_fault s [] nothing_held words false []) found [] ≡ []
+
+  abbrev with_rows : Option Shape → Option (Text × List Row)
+  with_rows found = option_map (λ s. rows_at s words) found
+
+  pub sub_by : (Asks : Option (Text × List Row) → Type 0) (shape : Shape) (is : Bool) (later : Option Shape) → (level_fault shape [] nothing_held words false [] ≡ [] → Asks (Some (rows_at shape words)))
+      → (IsCleanly later → is_some (with_rows later) ≡ true → Asks (with_rows later)) → IsCleanly (cond is (Some shape) later) → is_some (with_rows (cond is (Some shape) later)) ≡ true → Asks (with_rows (cond is (Some shape) later))
+  sub_by Asks shape true later here others clean there = here clean
+  sub_by Asks shape false later here others clean there = others clean there
+
+  pub none_asks : (Asks : Option (Text × List Row) → Type 0) → is_some (with_rows None) ≡ true → Asks (with_rows None)
+  none_asks Asks there = absurd cc
+
+-- what was found under a name
+
+pub rows_found : (name : Text) (Holds : List Row → Type 0) (found : Option (Text × List Row)) (rows : List Row) → IsFound name Holds found → option_map (λ (p : Text × List Row). p.1) found ≡ Some rows → Holds rows
+rows_found name Holds found rows is named =
+    let same : Some is.0 ≡ Some rows = ap (option_map (λ (p : Text × List Row). p.1)) (sym is.1) ∙ named in
+    let equal : is.0 ≡ rows = cc in
+    subst Holds equal is.2
+
+abbrev pub first_byte : Option Text → ℕ
+first_byte None = 0
+first_byte (Some text) = get_or text 0 0
+
+-- nothing is found under two names with another first byte
+pub not_found : (name other : Text) (Holds : List Row → Type 0) (found : Option (Text × List Row)) → (first_byte (Some name) ≡ first_byte (Some other) → ⊥) → IsFound name Holds found → option_map (λ (p : Text × List Row). p.0) found ≡ Some other → ⊥
+not_found name other Holds found differ is named =
+    let same : Some name ≡ Some other = ap (option_map (λ (p : Text × List Row). p.0)) (sym is.1) ∙ named in
+    differ (ap first_byte same)

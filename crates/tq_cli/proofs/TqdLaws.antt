@@ -17,9 +17,9 @@ use Rattle.clap.specs.declared.builder.value_parser.Reading.TheVariants.{AsWritt
 use Rattle.clap.specs.declared.builder.value_parser.ValueParser.{ValueParser}
 use Rattle.clap.specs.declared.builder.value_parser.ValueParser.TheVariants as vp
 use Rattle.clap.proofs.ValueTestLemmas.{accepts-Accepts}
-use Rattle.tq_cli.specs.TqdWords.{CanAsk, CanAskLast, CanAskPart, CanBePart, CanBeServer, HasLimit, HasLimits, HasText, IsFound, part_app, rehearse_app, server_app, tqd_app}
+use Rattle.tq_cli.specs.TqdWords.{CanAsk, CanAskLast, CanAskPart, CanBePart, CanBeServer, HasLimit, HasLimits, HasText, part_app, rehearse_app, server_app, tqd_app}
 use Rattle.tq_cli.proofs.ParseLaws.{Each, Keeps, both_none, level_kept}
-use Rattle.tq_cli.proofs.RuleLaws.{AreNamed, IsClean, help_keeps, other_keeps, row_given, row_or_none, set_keeps, some_kind, taken}
+use Rattle.tq_cli.proofs.RuleLaws.{AreNamed, IsClean, help_keeps, other_keeps, row_given, row_or_none, rows_found, not_found, none_asks, set_keeps, some_kind, sub_by, taken, first_byte}
 use Rattle.tq_cli.proofs.CommandLaws.{AreRanged, given_by, level_clean, number_given, number_help, number_keeps, number_other, numbers, passed_by, wanted_by}
 
 -- there is a value
@@ -189,22 +189,6 @@ rehearse_has_file words clean =
     let kept = level_kept (AreTexts file) rehearse (text_keeps file None true false, (text_help file false, tt)) [] nothing_held words false [] clean tt in
     text_given file rows kept.0 (given_by (is_given file rows) kept.1)
 
--- a subcommand that the words may name, before others
-module _ (words : List Text) where
-  abbrev IsCleanly : Option Shape → Type 0
-  IsCleanly found = option_map_or (λ s. level_fault s [] nothing_held words false []) found [] ≡ []
-
-  abbrev with_rows : Option Shape → Option (Text × List Row)
-  with_rows found = option_map (λ s. rows_at s words) found
-
-  sub_by : (Asks : Option (Text × List Row) → Type 0) (shape : Shape) (is : Bool) (later : Option Shape) → (level_fault shape [] nothing_held words false [] ≡ [] → Asks (Some (rows_at shape words)))
-      → (IsCleanly later → is_some (with_rows later) ≡ true → Asks (with_rows later)) → IsCleanly (cond is (Some shape) later) → is_some (with_rows (cond is (Some shape) later)) ≡ true → Asks (with_rows (cond is (Some shape) later))
-  sub_by Asks shape true later here others clean there = here clean
-  sub_by Asks shape false later here others clean there = others clean there
-
-  none_asks : (Asks : Option (Text × List Row) → Type 0) → is_some (with_rows None) ≡ true → Asks (with_rows None)
-  none_asks Asks there = absurd cc
-
 stop_asks : (stop : Option (Text × List Text)) → entered_fault (built tqd_app) stop ≡ [] → is_some (entered (built tqd_app) stop) ≡ true → CanAsk (entered (built tqd_app) stop)
 stop_asks None clean there = absurd cc
 stop_asks (Some p) clean there =
@@ -227,24 +211,6 @@ can_ask words clean =
     let stop = stop_after (built tqd_app).top.rules (names_of (built tqd_app)) (argument_words tqd_app words) in
     let end = level_clean _ (entered_fault (built tqd_app) stop) _ _ _ clean in
     stop_asks stop end.0 (wanted_by (is_some (entered (built tqd_app) stop)) end.1)
-
--- ---- what was found under a name
-
-pub rows_found : (name : Text) (Holds : List Row → Type 0) (found : Option (Text × List Row)) (rows : List Row) → IsFound name Holds found → option_map (λ (p : Text × List Row). p.1) found ≡ Some rows → Holds rows
-rows_found name Holds found rows is named =
-    let same : Some is.0 ≡ Some rows = ap (option_map (λ (p : Text × List Row). p.1)) (sym is.1) ∙ named in
-    let equal : is.0 ≡ rows = cc in
-    subst Holds equal is.2
-
-abbrev first_byte : Option Text → ℕ
-first_byte None = 0
-first_byte (Some text) = get_or text 0 0
-
--- nothing is found under two names with another first byte
-pub not_found : (name other : Text) (Holds : List Row → Type 0) (found : Option (Text × List Row)) → (first_byte (Some name) ≡ first_byte (Some other) → ⊥) → IsFound name Holds found → option_map (λ (p : Text × List Row). p.0) found ≡ Some other → ⊥
-not_found name other Holds found differ is named =
-    let same : Some name ≡ Some other = ap (option_map (λ (p : Text × List Row). p.0)) (sym is.1) ∙ named in
-    differ (ap first_byte same)
 
 -- the rows of a server, where one was found
 pub server_rows : (found : Option (Text × List Row)) (rows : List Row) → CanAskPart found → option_map (λ (p : Text × List Row). p.0) found ≡ Some (codes "server") → option_map (λ (p : Text × List Row). p.1) found ≡ Some rows → CanBeServer rows

@@ -107,6 +107,10 @@ AreGiven rows levels workers rounds =
 abbrev pub CanBeGiven : List Row → Type 0
 CanBeGiven rows = HasNumber (codes "levels") 1 10 rows × MayHaveNumber (codes "workers") 2 rows × MayHaveNumber (codes "rounds") 1000 rows
 
+-- a subcommand of that name was found, with such rows
+abbrev pub IsFound : Text → (List Row → Type 0) → Option (Text × List Row) → Type 0
+IsFound name Holds found = (rows : List Row) × (found ≡ Some (name, rows)) × Holds rows
+
 -- the subcommand that was found, with its options, asks for this
 abbrev pub AsksFor : Option (Text × List Row) → Words → Type 0
 AsksFor found (Shell levels) = (rows : List Row) × (found ≡ Some (codes "shell", rows)) × IsGiven (codes "levels") rows levels

@@ -5,7 +5,7 @@ use Rattle.clap.specs.Words.{App, IsSignedIn, Row, Rule, Text, fault_of, many_of
 use Rattle.clap.specs.Simple.{on_top}
 use Rattle.clap.specs.Walk.{first_of}
 use Rattle.clap.specs.declared.builder.value_parser.ValueParser.TheVariants as vp
-use Rattle.tq_cli.specs.Command.{HasNumber, IsGiven, levels_rule, set_rule}
+use Rattle.tq_cli.specs.Command.{HasNumber, IsFound, IsGiven, levels_rule, set_rule}
 use Rattle.tq_cli.specs.declared.tqd_words.GivenLimits.{GivenLimits}
 use Rattle.tq_cli.specs.declared.tqd_words.PartOptions.{PartOptions}
 use Rattle.tq_cli.specs.declared.tqd_words.TqdWords.{TqdWords}
@@ -100,10 +100,6 @@ CanBePart rows = HasNumber (codes "levels") 1 10 rows × HasText (codes "log") r
 
 abbrev pub CanBeServer : List Row → Type 0
 CanBeServer rows = HasNumber (codes "server") 1 1023 rows × CanBePart rows
-
--- a subcommand of that name was found, with such rows
-abbrev pub IsFound : Text → (List Row → Type 0) → Option (Text × List Row) → Type 0
-IsFound name Holds found = (rows : List Row) × (found ≡ Some (name, rows)) × Holds rows
 
 -- the subcommand that was found, with its options, asks for this
 abbrev pub AsksFor : Option (Text × List Row) → TqdWords → Type 0

@@ -232,7 +232,7 @@ module _ {S A R : Type 0} (reply : S → ℕ → A → R) (after : S → ℕ →
   -- it ended by a fault
   abbrev pub Ends : HostFault → Option (List ℕ) → Option (List ℕ) → Option (List ℕ) → Option (List ℕ) → Type 0
   Ends fault kept_then synced_then taken_then given_then =
-      (bytes : List ℕ) × Appends given given_then bytes × (cut : IsCutOff reply after reads_ask reads entry_line told_line start kept kept_then synced_then taken taken_then bytes) × IsLong fault bytes cut.rest
+      (bytes : List ℕ) × Appends given given_then bytes × ((cut : IsCutOff reply after reads_ask reads entry_line told_line start kept kept_then synced_then taken taken_then bytes) × IsLong fault bytes cut.rest)
 
   module _ (turn : ℕ) (kept_now synced_now taken_now given_now : Option (List ℕ)) (batch : Batched S A R) (line unread : List ℕ) (h : IsTurning turn kept_now synced_now taken_now given_now batch line unread) where
     pub turn-line : (count : ℕ) (told : Told A R) → IsLine (line ++ take count unread) → IsTold reply after reads_ask reads entry_line batch.standing (line ++ take count unread) told
@@ -254,7 +254,8 @@ module _ {S A R : Type 0} (reply : S → ℕ → A → R) (after : S → ℕ →
     }
 
     pub turn-cut : (fault : HostFault) → IsLong fault h.bytes (line ++ unread) → Ends fault kept_now synced_now taken_now given_now
-    turn-cut fault long = (h.bytes, h.read, cut-here reply after reads_ask reads entry_line told_line start kept taken kept_now synced_now taken_now h.newer h.older batch h.serving h.bytes (line ++ unread) h.parts, long)
+    unfolding cut-here
+    turn-cut fault long = (h.bytes, h.read, (cut-here reply after reads_ask reads entry_line told_line start kept taken kept_now synced_now taken_now h.newer h.older batch h.serving h.bytes (line ++ unread) h.parts, long))
 
     -- a line without its line feed, which is longer than lines may be
     pub turn-long : HasNoFeed unread → 67108864 < length line → Ends TooLong kept_now synced_now taken_now given_now
@@ -271,7 +272,7 @@ module _ {S A R : Type 0} (reply : S → ℕ → A → R) (after : S → ℕ →
     pub turn-half : (fault : HostFault) → (fault ≡ TooLong → ⊥) → (kept_then synced_then taken_then : Option (List ℕ)) → IsHalfOut batch.entries batch.answers kept_now kept_then synced_now synced_then taken_now taken_then → Ends fault kept_then synced_then taken_then given_now
     turn-half fault short kept_then synced_then taken_then half =
         let cut = cut-half reply after reads_ask reads entry_line told_line start kept taken kept_now synced_now taken_now h.newer h.older batch h.serving h.bytes (line ++ unread) h.parts kept_then synced_then taken_then half in
-        (h.bytes, h.read, cut, not-long fault short h.bytes cut.rest)
+        (h.bytes, h.read, (cut, not-long fault short h.bytes cut.rest))
 
     module _ (kept_then synced_then taken_then given_then : Option (List ℕ)) (more : Appends kept_now kept_then batch.entries) (same : synced_then ≡ kept_then) (said : Appends taken_now taken_then batch.answers) where
       out : IsServing reply after reads_ask reads entry_line told_line start kept kept_then synced_then taken taken_then [] (h.newer ++ h.older) (nothing_left batch.standing)
@@ -297,8 +298,7 @@ module _ {S A R : Type 0} (reply : S → ℕ → A → R) (after : S → ℕ →
       turn-fails none = (
         h.bytes,
         Appends-kept given given_now given_then h.bytes h.read none,
-        cut-here reply after reads_ask reads entry_line told_line start kept taken kept_then synced_then taken_then [] (h.newer ++ h.older) (nothing_left batch.standing) out h.bytes (line ++ unread) h.parts,
-        tt,
+        (cut-here reply after reads_ask reads entry_line told_line start kept taken kept_then synced_then taken_then [] (h.newer ++ h.older) (nothing_left batch.standing) out h.bytes (line ++ unread) h.parts, tt),
       )
 
       -- it ended

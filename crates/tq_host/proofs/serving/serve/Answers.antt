@@ -34,7 +34,7 @@ returns-in_default-end_line-clause-served g c =
     let taken = g.W.Sink.taken in
     let given = g.R.Source.given in
     let unread = take (c.loop-turn.count - c.loop-turn.at) (drop c.loop-turn.at c.loop-turn.buffer) in
-    turn-cut g.P.Answers.reply g.P.Answers.after g.P.Wire.reads_ask g.P.Wire.reads g.P.Wire.entry_line g.P.Wire.told_line c.args.part (kept c.args.log.now) (taken c.args.writer.now) (given c.args.reader.now) c.loop-turn.turn
+    turn-cut g.P.Answers.reply g.P.Answers.after g.P.Wire.reads_ask g.P.Wire.reads g.P.Wire.entry_line g.P.Wire.told_line c.args.part (kept c.args.log.now) (taken c.args.writer.now) (given c.args.reader.now) c.loop-turn._turn
     (kept c.loop-turn.log) (synced c.loop-turn.log) (taken c.loop-turn.writer) (given c.loop-turn.reader) c.loop-turn.batch c.loop-turn.line.items unread c.loop-turn.invariant.going Memory tt
 
 pub returns-then-len-gt-LINE_LIMIT-clause-served : goal.returns-then-len-gt-LINE_LIMIT-clause-served
@@ -46,7 +46,7 @@ returns-then-len-gt-LINE_LIMIT-clause-served g c =
     let unread = take (c.loop-turn.count - c.loop-turn.at) (drop c.loop-turn.at c.loop-turn.buffer) in
     let nowhere : Nowhere (Passes (is_byte 10) unread) 0 (length unread) = search rules in
     let long : 67108864 < length c.loop-turn.line.items = search rules in
-    turn-long g.P.Answers.reply g.P.Answers.after g.P.Wire.reads_ask g.P.Wire.reads g.P.Wire.entry_line g.P.Wire.told_line c.args.part (kept c.args.log.now) (taken c.args.writer.now) (given c.args.reader.now) c.loop-turn.turn
+    turn-long g.P.Answers.reply g.P.Answers.after g.P.Wire.reads_ask g.P.Wire.reads g.P.Wire.entry_line g.P.Wire.told_line c.args.part (kept c.args.log.now) (taken c.args.writer.now) (given c.args.reader.now) c.loop-turn._turn
     (kept c.loop-turn.log) (synced c.loop-turn.log) (taken c.loop-turn.writer) (given c.loop-turn.reader) c.loop-turn.batch c.loop-turn.line.items unread c.loop-turn.invariant.going (no-feed-at-all unread nowhere) long
 
 pub returns-in_default-extend_from_slice-clause-served : goal.returns-in_default-extend_from_slice-clause-served
@@ -56,7 +56,7 @@ returns-in_default-extend_from_slice-clause-served g c =
     let taken = g.W.Sink.taken in
     let given = g.R.Source.given in
     let unread = take (c.loop-turn.count - c.loop-turn.at) (drop c.loop-turn.at c.loop-turn.buffer) in
-    turn-cut g.P.Answers.reply g.P.Answers.after g.P.Wire.reads_ask g.P.Wire.reads g.P.Wire.entry_line g.P.Wire.told_line c.args.part (kept c.args.log.now) (taken c.args.writer.now) (given c.args.reader.now) c.loop-turn.turn
+    turn-cut g.P.Answers.reply g.P.Answers.after g.P.Wire.reads_ask g.P.Wire.reads g.P.Wire.entry_line g.P.Wire.told_line c.args.part (kept c.args.log.now) (taken c.args.writer.now) (given c.args.reader.now) c.loop-turn._turn
     (kept c.loop-turn.log) (synced c.loop-turn.log) (taken c.loop-turn.writer) (given c.loop-turn.reader) c.loop-turn.batch c.loop-turn.line.items unread c.loop-turn.invariant.going Memory tt
 
 pub returns-clause-served : goal.returns-clause-served
@@ -66,8 +66,8 @@ returns-clause-served g c =
     let taken = g.W.Sink.taken in
     let given = g.R.Source.given in
     let unread = take (c.loop-turn.count - c.loop-turn.at) (drop c.loop-turn.at c.loop-turn.buffer) in
-    let last : 2 ^ 64 ≤ c.loop-turn.turn + 1 = search rules in
-    turn-last g.P.Answers.reply g.P.Answers.after g.P.Wire.reads_ask g.P.Wire.reads g.P.Wire.entry_line g.P.Wire.told_line c.args.part (kept c.args.log.now) (taken c.args.writer.now) (given c.args.reader.now) c.loop-turn.turn
+    let last : 2 ^ 64 ≤ c.loop-turn._turn + 1 = search rules in
+    turn-last g.P.Answers.reply g.P.Answers.after g.P.Wire.reads_ask g.P.Wire.reads g.P.Wire.entry_line g.P.Wire.told_line c.args.part (kept c.args.log.now) (taken c.args.writer.now) (given c.args.reader.now) c.loop-turn._turn
     (kept c.loop-turn.log) (synced c.loop-turn.log) (taken c.loop-turn.writer) (given c.loop-turn.reader) c.loop-turn.batch c.loop-turn.line.items unread c.loop-turn.invariant.going last
 
 pub returns-in-Err-clause-served : goal.returns-in-Err-clause-served
@@ -78,7 +78,7 @@ returns-in-Err-clause-served g c =
     let given = g.R.Source.given in
     let unread = take (c.loop-turn.count - c.loop-turn.at) (drop c.loop-turn.at c.loop-turn.buffer) in
     let half : IsHalfOut c.loop-turn.batch.entries c.loop-turn.batch.answers (kept c.loop-turn.log) (kept c.flush.new.log) (synced c.loop-turn.log) (synced c.flush.new.log) (taken c.loop-turn.writer) (taken c.flush.new.writer) = search rules in
-    turn-half g.P.Answers.reply g.P.Answers.after g.P.Wire.reads_ask g.P.Wire.reads g.P.Wire.entry_line g.P.Wire.told_line c.args.part (kept c.args.log.now) (taken c.args.writer.now) (given c.args.reader.now) c.loop-turn.turn
+    turn-half g.P.Answers.reply g.P.Answers.after g.P.Wire.reads_ask g.P.Wire.reads g.P.Wire.entry_line g.P.Wire.told_line c.args.part (kept c.args.log.now) (taken c.args.writer.now) (given c.args.reader.now) c.loop-turn._turn
     (kept c.loop-turn.log) (synced c.loop-turn.log) (taken c.loop-turn.writer) (given c.loop-turn.reader) c.loop-turn.batch c.loop-turn.line.items unread c.loop-turn.invariant.going c.in-Err.fault c.in-Err.ensures.short
     (kept c.flush.new.log) (synced c.flush.new.log) (taken c.flush.new.writer) half
 
@@ -93,7 +93,7 @@ returns-in_default-read-clause-served g c =
     let same : synced c.flush.new.log ≡ kept c.flush.new.log = search rules in
     let said : Appends (taken c.loop-turn.writer) (taken c.flush.new.writer) c.loop-turn.batch.answers = search rules in
     let none : Keeps (given c.loop-turn.reader) (given c.read.new.self) = search rules in
-    turn-fails g.P.Answers.reply g.P.Answers.after g.P.Wire.reads_ask g.P.Wire.reads g.P.Wire.entry_line g.P.Wire.told_line c.args.part (kept c.args.log.now) (taken c.args.writer.now) (given c.args.reader.now) c.loop-turn.turn
+    turn-fails g.P.Answers.reply g.P.Answers.after g.P.Wire.reads_ask g.P.Wire.reads g.P.Wire.entry_line g.P.Wire.told_line c.args.part (kept c.args.log.now) (taken c.args.writer.now) (given c.args.reader.now) c.loop-turn._turn
     (kept c.loop-turn.log) (synced c.loop-turn.log) (taken c.loop-turn.writer) (given c.loop-turn.reader) c.loop-turn.batch c.loop-turn.line.items unread c.loop-turn.invariant.going
     (kept c.flush.new.log) (synced c.flush.new.log) (taken c.flush.new.writer) (given c.read.new.self) more same said none
 
@@ -111,7 +111,7 @@ returns-then-more-eq0-clause-served g c =
     let free = no-feed-at-all unread nowhere in
     let bytes : Appends (given c.loop-turn.reader) (given c.read.new.self) (take c.in-Ok-read.more c.read.new.buffer) = search rules in
     let none : Appends (given c.loop-turn.reader) (given c.read.new.self) [] = subst (λ n. Appends (given c.loop-turn.reader) (given c.read.new.self) (take n c.read.new.buffer)) c.if-more-eq0.true bytes in
-    turn-ends g.P.Answers.reply g.P.Answers.after g.P.Wire.reads_ask g.P.Wire.reads g.P.Wire.entry_line g.P.Wire.told_line c.args.part (kept c.args.log.now) (taken c.args.writer.now) (given c.args.reader.now) c.loop-turn.turn
+    turn-ends g.P.Answers.reply g.P.Answers.after g.P.Wire.reads_ask g.P.Wire.reads g.P.Wire.entry_line g.P.Wire.told_line c.args.part (kept c.args.log.now) (taken c.args.writer.now) (given c.args.reader.now) c.loop-turn._turn
     (kept c.loop-turn.log) (synced c.loop-turn.log) (taken c.loop-turn.writer) (given c.loop-turn.reader) c.loop-turn.batch c.loop-turn.line.items unread c.loop-turn.invariant.going
     (kept c.flush.new.log) (synced c.flush.new.log) (taken c.flush.new.writer) (given c.read.new.self) more same said free none
 
@@ -146,9 +146,9 @@ loop-turn-preserved-in-Some g c =
     let none : c.end_line.new.line.items ≡ [] = search rules in
     let whole : IsLine (c.loop-turn.line.items ++ take (place + 1) unread) = line-found c.loop-turn.line.items unread place c.loop-turn.invariant.going.unbroken found.0.high (eqb-true _ _ found.1) found.0.before in
     record {
-      going = turn-same g.P.Answers.reply g.P.Answers.after g.P.Wire.reads_ask g.P.Wire.reads g.P.Wire.entry_line g.P.Wire.told_line c.args.part (kept c.args.log.now) (taken c.args.writer.now) (given c.args.reader.now) (c.loop-turn.turn + 1)
+      going = turn-same g.P.Answers.reply g.P.Answers.after g.P.Wire.reads_ask g.P.Wire.reads g.P.Wire.entry_line g.P.Wire.told_line c.args.part (kept c.args.log.now) (taken c.args.writer.now) (given c.args.reader.now) (c.loop-turn._turn + 1)
           (kept c.loop-turn.log) (synced c.loop-turn.log) (taken c.loop-turn.writer) (given c.loop-turn.reader) (with_told g.P.Answers.after g.P.Wire.entry_line g.P.Wire.told_line c.loop-turn.batch told.0) c.end_line.new.batch [] c.end_line.new.line.items (drop (place + 1) unread) _
-          (turn-line g.P.Answers.reply g.P.Answers.after g.P.Wire.reads_ask g.P.Wire.reads g.P.Wire.entry_line g.P.Wire.told_line c.args.part (kept c.args.log.now) (taken c.args.writer.now) (given c.args.reader.now) c.loop-turn.turn
+          (turn-line g.P.Answers.reply g.P.Answers.after g.P.Wire.reads_ask g.P.Wire.reads g.P.Wire.entry_line g.P.Wire.told_line c.args.part (kept c.args.log.now) (taken c.args.writer.now) (given c.args.reader.now) c.loop-turn._turn
           (kept c.loop-turn.log) (synced c.loop-turn.log) (taken c.loop-turn.writer) (given c.loop-turn.reader) c.loop-turn.batch c.loop-turn.line.items unread c.loop-turn.invariant.going (place + 1) told.0 whole told.1) told.2 none (sym (slice-rest c.loop-turn.buffer c.loop-turn.at c.loop-turn.count (place + 1) room));
       within = (omega (arith, room, c.loop-turn.invariant.within.0), c.loop-turn.invariant.within.1);
       reads = c.loop-turn.invariant.reads;
@@ -181,9 +181,9 @@ loop-turn-preserved g c =
     let writes : g.W.Sink.failed c.flush.new.writer ≡ g.W.Sink.failed c.loop-turn.writer = search rules in
     let logs : g.L.Log.failed c.flush.new.log ≡ g.L.Log.failed c.loop-turn.log = search rules in
     record {
-      going = turn-same g.P.Answers.reply g.P.Answers.after g.P.Wire.reads_ask g.P.Wire.reads g.P.Wire.entry_line g.P.Wire.told_line c.args.part (kept c.args.log.now) (taken c.args.writer.now) (given c.args.reader.now) (c.loop-turn.turn + 1)
+      going = turn-same g.P.Answers.reply g.P.Answers.after g.P.Wire.reads_ask g.P.Wire.reads g.P.Wire.entry_line g.P.Wire.told_line c.args.part (kept c.args.log.now) (taken c.args.writer.now) (given c.args.reader.now) (c.loop-turn._turn + 1)
           (kept c.flush.new.log) (synced c.flush.new.log) (taken c.flush.new.writer) (given c.read.new.self) (nothing_left c.loop-turn.batch.standing) c.flush.new.batch (c.loop-turn.line.items ++ unread) c.extend_from_slice.new.self.items (take more_bytes c.read.new.buffer) _
-          (turn-read g.P.Answers.reply g.P.Answers.after g.P.Wire.reads_ask g.P.Wire.reads g.P.Wire.entry_line g.P.Wire.told_line c.args.part (kept c.args.log.now) (taken c.args.writer.now) (given c.args.reader.now) c.loop-turn.turn
+          (turn-read g.P.Answers.reply g.P.Answers.after g.P.Wire.reads_ask g.P.Wire.reads g.P.Wire.entry_line g.P.Wire.told_line c.args.part (kept c.args.log.now) (taken c.args.writer.now) (given c.args.reader.now) c.loop-turn._turn
           (kept c.loop-turn.log) (synced c.loop-turn.log) (taken c.loop-turn.writer) (given c.loop-turn.reader) c.loop-turn.batch c.loop-turn.line.items unread c.loop-turn.invariant.going
           (kept c.flush.new.log) (synced c.flush.new.log) (taken c.flush.new.writer) (given c.read.new.self) more same said free (take more_bytes c.read.new.buffer) (rw piece some) comes) batch line (ap (λ n. take n c.read.new.buffer) size);
       within = (omega arith, few);
