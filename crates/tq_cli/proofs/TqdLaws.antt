@@ -1,23 +1,21 @@
 -- What clap finds in the words of `tqd` where it finds no fault with them.
-use Rattle.std.proofs.Common.{◌≡◌, ◌∙◌, ◌⊎◌, inl, inr, ◌++◌, ◌||◌, ℕ, Bool, true, false, not, cond, List, [], ◌∷◌, Option, Some, None, is_some, length, map, refl, sym, ap, subst, slice_get, get_or, codes, arith}
+use Rattle.std.proofs.Common.{◌≡◌, ◌∙◌, inl, inr, ◌++◌, ◌||◌, ℕ, Bool, true, false, not, cond, List, [], ◌∷◌, Option, Some, None, is_some, map, refl, sym, ap, subst, slice_get, codes, arith}
 use Rattle.std.specs.Prelude.{pos, option_map, option_and_then}
-use Rattle.std.specs.List.{find}
-use Rattle.std.specs.Option.{option_map_or}
 use Rattle.std.specs.Str.{bytes_eq}
-use Rattle.clap.specs.Kinds.{Kinds, check_kinds, value_kinds, values_kinds}
+use Rattle.clap.specs.Kinds.{check_kinds, value_kinds, values_kinds}
 use Rattle.clap.specs.Values.{read_as}
 use Rattle.clap.specs.ValueTests.{accepts}
 use Rattle.clap.specs.Walk.{Row, Rule, Text, answers_to, many_of, nothing_held, stop_after}
 use Rattle.clap.specs.Takes.{is_given}
 use Rattle.clap.specs.Simple.{Shape, argument_words, built, built_leaf, entered, filled, help_rule, inherited, label_of, marked_built, names_of, rows_at, with_index, with_leaf_noted}
 use Rattle.clap.specs.Faults.{entered_fault, fault_of, level_fault}
-use Rattle.clap.specs.Words.{IsSignedIn, subcommand_of, without_minus}
+use Rattle.clap.specs.Words.{subcommand_of, without_minus}
 use Rattle.clap.specs.declared.builder.value_parser.Reading.{Reading}
 use Rattle.clap.specs.declared.builder.value_parser.Reading.TheVariants.{AsWritten, WithoutMinus}
 use Rattle.clap.specs.declared.builder.value_parser.ValueParser.{ValueParser}
 use Rattle.clap.specs.declared.builder.value_parser.ValueParser.TheVariants as vp
 use Rattle.clap.proofs.ValueTestLemmas.{accepts-Accepts}
-use Rattle.tq_cli.specs.TqdWords.{CanAsk, CanAskLast, CanAskPart, CanBePart, CanBeServer, HasLimit, HasLimits, HasText, part_app, rehearse_app, server_app, tqd_app}
+use Rattle.tq_cli.specs.TqdWords.{CanAsk, CanAskPart, CanBePart, CanBeServer, HasLimit, HasLimits, HasText, part_app, rehearse_app, server_app, tqd_app}
 use Rattle.tq_cli.proofs.ParseLaws.{Each, Keeps, both_none, level_kept}
 use Rattle.tq_cli.proofs.RuleLaws.{AreNamed, IsClean, help_keeps, other_keeps, row_given, row_or_none, rows_found, not_found, none_asks, set_keeps, some_kind, sub_by, taken, first_byte}
 use Rattle.tq_cli.proofs.CommandLaws.{AreRanged, given_by, level_clean, number_given, number_help, number_keeps, number_other, numbers, passed_by, wanted_by}

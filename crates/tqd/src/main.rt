@@ -130,7 +130,15 @@ fn host_on<P: Wire>(rt: &HostRuntime, part: P, limit: u32, path: &str) -> ExitCo
     let mut reader = StdSource::new(rt.reader());
     let mut writer = StdSink::new(io::writer(rt));
     let lines = text.as_slice();
-    match host(rt.alloc(), part, limit, lines, &mut log, &mut reader, &mut writer) {
+    match host(
+        rt.alloc(),
+        part,
+        limit,
+        lines,
+        &mut log,
+        &mut reader,
+        &mut writer,
+    ) {
         Ok(status) => ExitCode::from(status),
         Err(fault) => say_fault(rt, fault),
     }

@@ -1,4 +1,4 @@
-use Rattle.std.proofs.Common.{◌≡◌, ◌+◌, ◌++◌, ◌∷◌, [], drop, inl, inr, take, refl, sym, rules}
+use Rattle.std.proofs.Common.{◌+◌, drop, inr, take, refl, sym}
 use Rattle.std.proofs.lemmas.Bool.{eqb-true}
 use Rattle.std.proofs.lemmas.List.{take-append-drop}
 use Rattle.tq_host.proofs.LineLaws.{feed-ends, no-feed-at-all, no-feed-behind}

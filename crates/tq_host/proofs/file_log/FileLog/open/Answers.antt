@@ -1,5 +1,4 @@
-use Rattle.std.proofs.Common.{◌≡◌, ◌∙◌, length, take, sym, ap, subst, rules}
-use Rattle.tq_host.specs.Lines.{BeginsWith, EndsWhole}
+use Rattle.std.proofs.Common.{◌≡◌, length, take, rules}
 use Rattle.tq_host.proofs.LineLaws.{front-is}
 use Rattle.tq_host.proofs.file_log.FileLog.open.Goals as goal
 
