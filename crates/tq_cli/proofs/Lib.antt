@@ -1,3 +1,4 @@
 mod ParseLaws
+mod RuleLaws
 mod CommandLaws
-mod FileLaws
+mod TqdLaws

@@ -4,6 +4,7 @@ use Rattle.std.specs.Str.Parse.{digits_value, without_leading_plus}
 use Rattle.clap.specs.Words.{App, IsAmong, IsSignedIn, Row, Rule, Text, fault_of, kind_of, new_app, new_rule, one_of, subcommand_of, with_rule, without_minus, with_subcommand}
 use Rattle.clap.specs.Simple.{on_top}
 use Rattle.clap.specs.declared.builder.action.ArgAction.TheVariants.{Set}
+use Rattle.clap.specs.declared.builder.value_parser.ValueParser.{ValueParser}
 use Rattle.clap.specs.declared.builder.value_parser.ValueParser.TheVariants as vp
 use Rattle.clap.specs.declared.error.Error.{Error}
 use Rattle.clap.specs.declared.error.kind.ErrorKind.{ErrorKind}
@@ -14,15 +15,14 @@ use Rattle.tq_cli.specs.declared.command.Words.TheVariants.{Shell, Threads, Audi
 use Rattle.tq_cli.specs.declared.command.WordsFault.{WordsFault}
 use Rattle.tq_cli.specs.declared.command.WordsFault.TheVariants.{Memory, Refused}
 
+-- an argument that is given a value, or as many as it has names, each of which passes its parser
+abbrev pub set_rule : Text → Option Text → ℕ → Option ValueParser → Bool → Rule
+set_rule name long names parser is_required =
+    record (new_rule name) { long = long; value_names = names; action = Some Set; parser = parser; required = is_required }
+
 -- an option that is given a number in a range
 abbrev pub number_rule : Text → ℕ → ℕ → Bool → Rule
-number_rule name least most is_required = record (new_rule name) {
-  long = Some name;
-  value_names = 1;
-  action = Some Set;
-  parser = Some (vp.Signed (pos least) (pos most));
-  required = is_required;
-}
+number_rule name least most is_required = set_rule name (Some name) 1 (Some (vp.Signed (pos least) (pos most))) is_required
 
 abbrev pub levels_rule : Rule
 levels_rule = number_rule (codes "levels") 1 10 true
@@ -107,6 +107,10 @@ AreGiven rows levels workers rounds =
 abbrev pub CanBeGiven : List Row → Type 0
 CanBeGiven rows = HasNumber (codes "levels") 1 10 rows × MayHaveNumber (codes "workers") 2 rows × MayHaveNumber (codes "rounds") 1000 rows
 
+-- a subcommand of that name was found, with such rows
+abbrev pub IsFound : Text → (List Row → Type 0) → Option (Text × List Row) → Type 0
+IsFound name Holds found = (rows : List Row) × (found ≡ Some (name, rows)) × Holds rows
+
 -- the subcommand that was found, with its options, asks for this
 abbrev pub AsksFor : Option (Text × List Row) → Words → Type 0
 AsksFor found (Shell levels) = (rows : List Row) × (found ≡ Some (codes "shell", rows)) × IsGiven (codes "levels") rows levels
@@ -134,9 +138,9 @@ abbrev pub IsRead : List Text → Words → Type 0
 IsRead words read = (fault_of tq_app words ≡ []) × AsksFor (subcommand_of tq_app words) read
 
 -- clap refuses the words for such a fault, or no memory was left to read them
-abbrev pub IsRefused : List Text → WordsFault → Type 0
-IsRefused words Memory = Unit {0}
-IsRefused words (Refused error) = IsAmong (kind_of error) (fault_of tq_app words)
+abbrev pub IsRefused : App → List Text → WordsFault → Type 0
+IsRefused app words Memory = Unit {0}
+IsRefused app words (Refused error) = IsAmong (kind_of error) (fault_of app words)
 
 -- the fault that an error of clap stands for
 abbrev pub fault_by : ErrorKind → Error → WordsFault

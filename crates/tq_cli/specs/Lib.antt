@@ -1,2 +1,2 @@
 pub mod Command
-pub mod Rehearsal
+pub mod TqdWords

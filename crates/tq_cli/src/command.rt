@@ -69,12 +69,12 @@ impl From<Error> for WordsFault {
 impl Words {
     ghost use Rattle.std.specs.Prelude.{IfOk, IfErr};
     ghost use Rattle.clap.specs.Words.{subcommand_rows_of};
-    ghost use Rattle.tq_cli.specs.Command.{AsksFor, CanAsk, CanAskBare, CanAskOther, IsRead, IsRefused, texts_of};
+    ghost use Rattle.tq_cli.specs.Command.{AsksFor, CanAsk, CanAskBare, CanAskOther, IsRead, IsRefused, texts_of, tq_app};
 
     /// Reads the words, of which the first is the name of the program.
     pub fn read(alloc: Global, words: &[String]) -> Result<Words, WordsFault>
         ensures read { IfOk result (IsRead (texts_of words.now)) }
-        ensures refused { IfErr result (IsRefused (texts_of words.now)) }
+        ensures refused { IfErr result (IsRefused tq_app (texts_of words.now)) }
     {
         let command = tq_command(alloc)?;
         let matches = command.try_get_matches_from(words)?;
@@ -122,7 +122,7 @@ impl Words {
 }
 
 /// The levels that a subcommand was given.
-fn levels_of(matches: &ArgMatches) -> Levels
+pub(crate) fn levels_of(matches: &ArgMatches) -> Levels
     requires { HasNumber (codes "levels") 1 10 (rows_of (found_of matches.now)) }
     ensures { IsGiven (codes "levels") (rows_of (found_of matches.now)) result }
 {
@@ -263,7 +263,7 @@ fn upgrade_command<'a>(alloc: Global) -> Command<'a>
         .after_long_help(UPGRADES)
 }
 
-fn levels_argument<'a>(alloc: Global) -> Arg<'a>
+pub(crate) fn levels_argument<'a>(alloc: Global) -> Arg<'a>
     ensures rule { rule_of result ≡ levels_rule }
     ensures local { result.global ≡ false }
 {

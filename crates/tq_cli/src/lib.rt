@@ -1,10 +1,10 @@
 //! The words of the command lines.
 //!
-//! Definitions: `specs/Command`, `Rehearsal`; `proofs/ParseLaws`, `CommandLaws`, `FileLaws` clap's parse.
+//! Definitions: `specs/Command`, `TqdWords`; `proofs/ParseLaws`, `RuleLaws`, `CommandLaws`, `TqdLaws` clap's parse.
 #![tactic(auto)]
 
 mod command;
-mod rehearsal;
+mod tqd_words;
 
 pub use command::{Words, WordsFault};
-pub use rehearsal::rehearsed_file;
+pub use tqd_words::{GivenLimits, PartOptions, TqdWords};

@@ -2,9 +2,9 @@
 use Rattle.std.proofs.Common.{◌≡◌, ℕ, zero, suc, ◌+◌, ◌<◌, ◌≤◌, ◌==◌, cond, List, [], ◌∷◌, ◌++◌, length, take, drop, slice_index, refl, sym, ap, subst, ◌∙◌, arith, append_assoc, drop-cons}
 use Rattle.std.proofs.lemmas.List.{append-nil, take_all}
 use Rattle.std.proofs.lemmas.Bool.{ne_eqb}
-use Rattle.std.proofs.Math.Seq.{take-add}
+use Rattle.std.proofs.Math.Seq.{take-add, take-append_seam}
 use Rattle.memchr.specs.Find.{Nowhere, Passes, is_byte}
-use Rattle.tq_host.specs.Lines.{HasNoFeed, IsLine, AreLines, text_of}
+use Rattle.tq_host.specs.Lines.{BeginsWith, HasNoFeed, IsLine, AreLines, text_of}
 
 pub no-feed : (bytes : List ℕ) (place : ℕ) → Nowhere (Passes (is_byte 10) bytes) 0 place → HasNoFeed (take place bytes)
 no-feed bytes zero none = tt
@@ -29,15 +29,22 @@ take-few zero bytes = omega arith
 take-few (suc count) [] = omega arith
 take-few (suc count) (byte ∷ bytes) = let few = take-few count bytes in omega (arith, few)
 
+-- the whole lines that a text begins with are a front of it
+pub front-is : (text lines : List ℕ) → BeginsWith text lines → take (length lines) text ≡ lines
+front-is text lines h = ap (take (length lines)) h.parts ∙ take-append_seam lines h.rest
+
+-- up to a line feed
+pub feed-ends : (bytes : List ℕ) (place : ℕ) → place < length bytes → slice_index bytes place ≡ 10 → take (place + 1) bytes ≡ take place bytes ++ 10 ∷ []
+feed-ends bytes place less is =
+    take-add place 1 bytes ∙ ap (λ rest. take place bytes ++ take 1 rest) (drop-cons bytes place 0 less ∙ ap (λ byte. byte ∷ drop (suc place) bytes) is)
+
 -- the bytes up to the first line feed are a line, also behind bytes without one
 pub line-found : (line left : List ℕ) (place : ℕ) → HasNoFeed line → place < length left → slice_index left place ≡ 10 → Nowhere (Passes (is_byte 10) left) 0 place → IsLine (line ++ take (place + 1) left)
 line-found line left place unbroken less is none =
-    let front : take (place + 1) left ≡ take place left ++ 10 ∷ [] =
-    take-add place 1 left ∙ ap (λ rest. take place left ++ take 1 rest) (drop-cons left place 0 less ∙ ap (λ byte. byte ∷ drop (suc place) left) is) in
     record {
       bytes = line ++ take place left;
       unbroken = no-feed-append line (take place left) unbroken (no-feed left place none);
-      ended = ap (λ more. line ++ more) front ∙ sym (append_assoc line (take place left) (10 ∷ []));
+      ended = ap (λ more. line ++ more) (feed-ends left place less is) ∙ sym (append_assoc line (take place left) (10 ∷ []));
     }
 
 -- ---- the lines of bytes, by a look at one after another

@@ -1,6 +1,6 @@
 -- What lines and what goes out do to what was served.
-use Rattle.std.proofs.Common.{◌≡◌, ◌≤◌, ℕ, ◌+◌, ◌-◌, List, [], ◌∷◌, ◌++◌, Option, take, drop, refl, sym, ap, subst, ◌∙◌, inl, inr, arith, append_assoc}
-use Rattle.std.proofs.lemmas.List.{append-nil, take-append-drop, drop-take, drop-drop}
+use Rattle.std.proofs.Common.{◌≡◌, ◌<◌, ◌≤◌, ◌^◌, ℕ, ◌+◌, ◌-◌, length, List, [], ◌∷◌, ◌++◌, Option, take, drop, refl, sym, ap, subst, ◌∙◌, inl, inr, arith, append_assoc}
+use Rattle.std.proofs.lemmas.List.{append-nil, length-append, take-append-drop, drop-take, drop-drop}
 use Rattle.std.specs.Io.KnownBytes.{Appends, Keeps}
 use Rattle.tq_devices.proofs.Written.{Appends-none, Appends-then, Appends-kept}
 use Rattle.tq_shape.specs.declared.entry.Entry.{Entry}
@@ -10,7 +10,9 @@ use Rattle.tq_host.specs.Told.{Told, entered, bad, full, memory, Exchange, AreTo
 use Rattle.tq_host.specs.Replay.{IsLogOf}
 use Rattle.tq_host.specs.Kept.{Batched, nothing_left, with_told, IsHalfOut}
 use Rattle.tq_host.proofs.LineLaws.{no-feed-append}
-use Rattle.tq_host.specs.Served.{Restarts, IsServing, IsAllServed, IsCutOff}
+use Rattle.tq_host.specs.Served.{Restarts, IsServing, IsAllServed, IsCutOff, IsLong}
+use Rattle.tq_host.specs.declared.fault.HostFault.{HostFault}
+use Rattle.tq_host.specs.declared.fault.HostFault.TheVariants.{Memory, Read, Write, TooLong, Log}
 
 again : (P : Option (List ℕ) → Type 0) (now then : Option (List ℕ)) → then ≡ now → P now → P then
 again P now then same h = subst P (sym same) h
@@ -180,12 +182,25 @@ parts-line asked line front rest =
 pub parts-piece : (asked line unread piece : List ℕ) → (asked ++ (line ++ unread)) ++ piece ≡ asked ++ ((line ++ unread) ++ piece)
 parts-piece asked line unread piece = append_assoc asked (line ++ unread) piece
 
+-- a line has a byte at least
+line-some : (line : List ℕ) → IsLine line → 0 < length line
+line-some line h =
+    let size = ap length h.ended ∙ length-append h.bytes (10 ∷ []) in
+    omega (arith, size)
+
+not-long : (fault : HostFault) → (fault ≡ TooLong → ⊥) → (bytes rest : List ℕ) → IsLong fault bytes rest
+not-long Memory short bytes rest = tt
+not-long Read short bytes rest = tt
+not-long Write short bytes rest = tt
+not-long TooLong short bytes rest = absurd (short refl)
+not-long Log short bytes rest = tt
+
 -- ---- one turn after another
 
 module _ {S A R : Type 0} (reply : S → ℕ → A → R) (after : S → ℕ → A → S) (reads_ask : List ℕ → Option A → Type 0) (reads : S → List ℕ → Option (Entry A R) → Type 0) (entry_line : A → R → List ℕ) (told_line : ℕ → R → List ℕ)
     (start : Standing S A R) (kept taken given : Option (List ℕ)) where
   -- these bytes were read: lines that are answered, the front of one that goes on, and what was not looked at
-  pub record IsTurning (kept_now synced_now taken_now given_now : Option (List ℕ)) (batch : Batched S A R) (line unread : List ℕ) : Type 0 where
+  pub record IsTurning (turn : ℕ) (kept_now synced_now taken_now given_now : Option (List ℕ)) (batch : Batched S A R) (line unread : List ℕ) : Type 0 where
     pub newer : List (Exchange A R)
     pub older : List (Exchange A R)
     pub serving : IsServing reply after reads_ask reads entry_line told_line start kept kept_now synced_now taken taken_now newer older batch
@@ -193,8 +208,9 @@ module _ {S A R : Type 0} (reply : S → ℕ → A → R) (after : S → ℕ →
     pub read : Appends given given_now bytes
     pub parts : bytes ≡ asked_text (newer ++ older) ++ (line ++ unread)
     pub unbroken : HasNoFeed line
+    pub turns : turn ≤ length (asked_text (newer ++ older)) + length bytes
 
-  pub turning-opens : (synced : Option (List ℕ)) → synced ≡ kept → IsTurning kept synced taken given (nothing_left start) [] []
+  pub turning-opens : (synced : Option (List ℕ)) → synced ≡ kept → IsTurning 0 kept synced taken given (nothing_left start) [] []
   turning-opens synced same = record {
     newer = [];
     older = [];
@@ -203,23 +219,24 @@ module _ {S A R : Type 0} (reply : S → ℕ → A → R) (after : S → ℕ →
     read = Appends-none given;
     parts = refl;
     unbroken = tt;
+    turns = omega arith;
   }
 
-  pub turn-same : (kept_now synced_now taken_now given_now : Option (List ℕ)) (batch batch_now : Batched S A R) (line line_now unread unread_now : List ℕ) → IsTurning kept_now synced_now taken_now given_now batch line unread
-      → batch_now ≡ batch → line_now ≡ line → unread_now ≡ unread → IsTurning kept_now synced_now taken_now given_now batch_now line_now unread_now
-  turn-same kept_now synced_now taken_now given_now batch batch_now line line_now unread unread_now h b l u =
-      subst (λ batch. IsTurning kept_now synced_now taken_now given_now batch line_now unread_now) (sym b)
-      (subst (λ line. IsTurning kept_now synced_now taken_now given_now batch line unread_now) (sym l)
-      (subst (λ unread. IsTurning kept_now synced_now taken_now given_now batch line unread) (sym u) h))
+  pub turn-same : (turn : ℕ) (kept_now synced_now taken_now given_now : Option (List ℕ)) (batch batch_now : Batched S A R) (line line_now unread unread_now : List ℕ) → IsTurning turn kept_now synced_now taken_now given_now batch line unread
+      → batch_now ≡ batch → line_now ≡ line → unread_now ≡ unread → IsTurning turn kept_now synced_now taken_now given_now batch_now line_now unread_now
+  turn-same turn kept_now synced_now taken_now given_now batch batch_now line line_now unread unread_now h b l u =
+      subst (λ batch. IsTurning turn kept_now synced_now taken_now given_now batch line_now unread_now) (sym b)
+      (subst (λ line. IsTurning turn kept_now synced_now taken_now given_now batch line unread_now) (sym l)
+      (subst (λ unread. IsTurning turn kept_now synced_now taken_now given_now batch line unread) (sym u) h))
 
   -- it ended by a fault
-  abbrev pub Ends : Option (List ℕ) → Option (List ℕ) → Option (List ℕ) → Option (List ℕ) → Type 0
-  Ends kept_then synced_then taken_then given_then =
-      (bytes : List ℕ) × Appends given given_then bytes × IsCutOff reply after reads_ask reads entry_line told_line start kept kept_then synced_then taken taken_then bytes
+  abbrev pub Ends : HostFault → Option (List ℕ) → Option (List ℕ) → Option (List ℕ) → Option (List ℕ) → Type 0
+  Ends fault kept_then synced_then taken_then given_then =
+      (bytes : List ℕ) × Appends given given_then bytes × ((cut : IsCutOff reply after reads_ask reads entry_line told_line start kept kept_then synced_then taken taken_then bytes) × IsLong fault bytes cut.rest)
 
-  module _ (kept_now synced_now taken_now given_now : Option (List ℕ)) (batch : Batched S A R) (line unread : List ℕ) (h : IsTurning kept_now synced_now taken_now given_now batch line unread) where
+  module _ (turn : ℕ) (kept_now synced_now taken_now given_now : Option (List ℕ)) (batch : Batched S A R) (line unread : List ℕ) (h : IsTurning turn kept_now synced_now taken_now given_now batch line unread) where
     pub turn-line : (count : ℕ) (told : Told A R) → IsLine (line ++ take count unread) → IsTold reply after reads_ask reads entry_line batch.standing (line ++ take count unread) told
-        → IsTurning kept_now synced_now taken_now given_now (with_told after entry_line told_line batch told) [] (drop count unread)
+        → IsTurning (turn + 1) kept_now synced_now taken_now given_now (with_told after entry_line told_line batch told) [] (drop count unread)
     turn-line count told whole is = record {
       newer = record { line = line ++ take count unread; told = told } ∷ h.newer;
       older = h.older;
@@ -230,22 +247,40 @@ module _ {S A R : Type 0} (reply : S → ℕ → A → R) (after : S → ℕ →
           h.parts ∙ ap (λ all. asked_text (h.newer ++ h.older) ++ (line ++ all)) (sym (take-append-drop count unread))
           ∙ parts-line (asked_text (h.newer ++ h.older)) line (take count unread) (drop count unread);
       unbroken = tt;
+      turns =
+          let some = line-some (line ++ take count unread) whole in
+          let more = length-append (asked_text (h.newer ++ h.older)) (line ++ take count unread) in
+          omega (arith, h.turns, some, more);
     }
 
-    pub turn-cut : Ends kept_now synced_now taken_now given_now
-    turn-cut = (h.bytes, h.read, cut-here reply after reads_ask reads entry_line told_line start kept taken kept_now synced_now taken_now h.newer h.older batch h.serving h.bytes (line ++ unread) h.parts)
+    pub turn-cut : (fault : HostFault) → IsLong fault h.bytes (line ++ unread) → Ends fault kept_now synced_now taken_now given_now
+    unfolding cut-here
+    turn-cut fault long = (h.bytes, h.read, (cut-here reply after reads_ask reads entry_line told_line start kept taken kept_now synced_now taken_now h.newer h.older batch h.serving h.bytes (line ++ unread) h.parts, long))
 
-    pub turn-half : (kept_then synced_then taken_then : Option (List ℕ)) → IsHalfOut batch.entries batch.answers kept_now kept_then synced_now synced_then taken_now taken_then → Ends kept_then synced_then taken_then given_now
-    turn-half kept_then synced_then taken_then half =
-        (h.bytes, h.read, cut-half reply after reads_ask reads entry_line told_line start kept taken kept_now synced_now taken_now h.newer h.older batch h.serving h.bytes (line ++ unread) h.parts kept_then synced_then taken_then half)
+    -- a line without its line feed, which is longer than lines may be
+    pub turn-long : HasNoFeed unread → 67108864 < length line → Ends TooLong kept_now synced_now taken_now given_now
+    turn-long free long =
+        let both = length-append line unread in
+        turn-cut TooLong (inl (no-feed-append line unread h.unbroken free, omega (arith, long, both)))
+
+    -- each turn ends a line or reads a byte
+    pub turn-last : 2 ^ 64 ≤ turn + 1 → Ends TooLong kept_now synced_now taken_now given_now
+    turn-last last =
+        let size = ap length h.parts ∙ length-append (asked_text (h.newer ++ h.older)) (line ++ unread) in
+        turn-cut TooLong (inr (omega (arith, h.turns, last, size)))
+
+    pub turn-half : (fault : HostFault) → (fault ≡ TooLong → ⊥) → (kept_then synced_then taken_then : Option (List ℕ)) → IsHalfOut batch.entries batch.answers kept_now kept_then synced_now synced_then taken_now taken_then → Ends fault kept_then synced_then taken_then given_now
+    turn-half fault short kept_then synced_then taken_then half =
+        let cut = cut-half reply after reads_ask reads entry_line told_line start kept taken kept_now synced_now taken_now h.newer h.older batch h.serving h.bytes (line ++ unread) h.parts kept_then synced_then taken_then half in
+        (h.bytes, h.read, (cut, not-long fault short h.bytes cut.rest))
 
     module _ (kept_then synced_then taken_then given_then : Option (List ℕ)) (more : Appends kept_now kept_then batch.entries) (same : synced_then ≡ kept_then) (said : Appends taken_now taken_then batch.answers) where
       out : IsServing reply after reads_ask reads entry_line told_line start kept kept_then synced_then taken taken_then [] (h.newer ++ h.older) (nothing_left batch.standing)
       out = serving-out reply after reads_ask reads entry_line told_line start kept taken kept_now synced_now taken_now h.newer h.older batch h.serving kept_then synced_then taken_then more same said
 
       -- what is kept of the line goes on with a piece
-      pub turn-read : HasNoFeed unread → (piece : List ℕ) → Appends given_now given_then piece → IsTurning kept_then synced_then taken_then given_then (nothing_left batch.standing) (line ++ unread) piece
-      turn-read free piece comes = record {
+      pub turn-read : HasNoFeed unread → (piece : List ℕ) → 0 < length piece → Appends given_now given_then piece → IsTurning (turn + 1) kept_then synced_then taken_then given_then (nothing_left batch.standing) (line ++ unread) piece
+      turn-read free piece some comes = record {
         newer = [];
         older = h.newer ++ h.older;
         serving = out;
@@ -253,14 +288,17 @@ module _ {S A R : Type 0} (reply : S → ℕ → A → R) (after : S → ℕ →
         read = Appends-then given given_now given_then h.bytes piece h.read comes;
         parts = ap (λ bytes. bytes ++ piece) h.parts ∙ parts-piece (asked_text (h.newer ++ h.older)) line unread piece;
         unbroken = no-feed-append line unread h.unbroken free;
+        turns =
+            let more = length-append h.bytes piece in
+            omega (arith, h.turns, some, more);
       }
 
       -- the source failed
-      pub turn-fails : Keeps given_now given_then → Ends kept_then synced_then taken_then given_then
+      pub turn-fails : Keeps given_now given_then → Ends Read kept_then synced_then taken_then given_then
       turn-fails none = (
         h.bytes,
         Appends-kept given given_now given_then h.bytes h.read none,
-        cut-here reply after reads_ask reads entry_line told_line start kept taken kept_then synced_then taken_then [] (h.newer ++ h.older) (nothing_left batch.standing) out h.bytes (line ++ unread) h.parts,
+        (cut-here reply after reads_ask reads entry_line told_line start kept taken kept_then synced_then taken_then [] (h.newer ++ h.older) (nothing_left batch.standing) out h.bytes (line ++ unread) h.parts, tt),
       )
 
       -- it ended

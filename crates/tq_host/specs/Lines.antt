@@ -1,5 +1,5 @@
 -- Lines of bytes, each with the line feed that ends it.
-use Rattle.std.specs.Prelude.{◌≡◌, ℕ, List, [], ◌∷◌, ◌++◌, ⊤}
+use Rattle.std.specs.Prelude.{◌≡◌, ◌⊎◌, ℕ, List, [], ◌∷◌, ◌++◌, ⊤}
 
 -- no byte is a line feed
 abbrev pub HasNoFeed : List ℕ → Type 0
@@ -26,3 +26,7 @@ pub record BeginsWith (text lines : List ℕ) : Type 0 where
   pub rest : List ℕ
   pub parts : text ≡ lines ++ rest
   pub torn : HasNoFeed rest
+
+-- the text is empty, or a line feed is its last byte
+abbrev pub EndsWhole : List ℕ → Type 0
+EndsWhole text = (text ≡ []) ⊎ ((front : List ℕ) × (text ≡ front ++ 10 ∷ []))

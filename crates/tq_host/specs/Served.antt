@@ -1,5 +1,5 @@
 -- What a host did up to its end.
-use Rattle.std.specs.Prelude.{◌≡◌, ℕ, ◌+◌, List, ◌++◌, Option, Result, Ok, Err}
+use Rattle.std.specs.Prelude.{◌≡◌, ◌⊎◌, ◌<◌, ◌≤◌, ◌^◌, ⊤, ℕ, ◌+◌, List, ◌++◌, Option, Result, Ok, Err, length}
 use Rattle.std.specs.Io.KnownBytes.{Appends}
 use Rattle.tq_shape.specs.declared.entry.Entry.{Entry}
 use Rattle.tq_part.specs.Agrees.{Standing}
@@ -25,6 +25,11 @@ module _ {S A R : Type 0} (reply : S → ℕ → A → R) (after : S → ℕ →
   Restarts start all =
       (opening : Standing S A R) (text : List ℕ) → IsLogOf reply after reads opening text start
       → IsLogOf reply after reads opening (text ++ logged_text entry_line all) (standing_after after start all)
+
+-- where a line is too long, more than 64 MiB of it came and no line feed; or 2^63 bytes came, and more than there are turns for
+abbrev pub IsLong : HostFault → List ℕ → List ℕ → Type 0
+IsLong TooLong bytes rest = (HasNoFeed rest × (67108864 < length rest)) ⊎ (2 ^ 63 ≤ length bytes)
+IsLong fault bytes rest = ⊤
 
 module _ {S A R : Type 0} (reply : S → ℕ → A → R) (after : S → ℕ → A → S) (reads_ask : List ℕ → Option A → Type 0) (reads : S → List ℕ → Option (Entry A R) → Type 0) (entry_line : A → R → List ℕ) (told_line : ℕ → R → List ℕ) where
   -- the lines of older are answered, their entries synced and their answers written; those of newer are answered, and no
@@ -71,4 +76,5 @@ module _ {S A R : Type 0} (reply : S → ℕ → A → R) (after : S → ℕ →
 
   abbrev pub IsServed : {T : Type 0} → Result T HostFault → Standing S A R → Option (List ℕ) → Option (List ℕ) → Option (List ℕ) → Option (List ℕ) → Option (List ℕ) → List ℕ → Type 0
   IsServed (Ok done) start kept kept_now synced_now taken taken_now bytes = IsAllServed start kept kept_now synced_now taken taken_now bytes
-  IsServed (Err fault) start kept kept_now synced_now taken taken_now bytes = IsCutOff start kept kept_now synced_now taken taken_now bytes
+  IsServed (Err fault) start kept kept_now synced_now taken taken_now bytes =
+      (cut : IsCutOff start kept kept_now synced_now taken taken_now bytes) × IsLong fault bytes cut.rest

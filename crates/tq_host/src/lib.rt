@@ -15,7 +15,7 @@ mod serving;
 mod wire;
 
 pub use fault::{HostFault, ReplayFault};
-pub use file_log::FileLog;
+pub use file_log::{FileLog, LogFault, OpenedLog};
 pub use hosting::host;
 pub use log::Log;
 pub use memory_log::MemoryLog;

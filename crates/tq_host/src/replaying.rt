@@ -2,7 +2,7 @@
 
 ghost use Rattle.std.specs.Prelude.{◌≡◌, ◌++◌, ◌<◌, ◌≤◌, [], ℕ, List, IfOk, IfErr, OnErr, OnOk, length};
 ghost use Rattle.tq_part.specs.Agrees.{Standing, standing_part};
-ghost use Rattle.tq_host.specs.Lines.{BeginsWith, IsLine, HasNoFeed};
+ghost use Rattle.tq_host.specs.Lines.{BeginsWith, EndsWhole, IsLine, HasNoFeed};
 ghost use Rattle.tq_host.specs.Replay.{Enters, IsLogOf, IsReplayFault, IsLineFault};
 
 use crate::fault::ReplayFault;
@@ -14,7 +14,8 @@ use tq_shape::Entry;
 
 /// The whole lines that the bytes begin with: all but a last one that no line feed ends.
 pub fn whole_lines(bytes: &[u8]) -> &[u8]
-    ensures { BeginsWith bytes.now result.now }
+    ensures begins { BeginsWith bytes.now result.now }
+    ensures whole { EndsWhole result.now }
 {
     match memrchr(b'\n', bytes) {
         Some(place) => &bytes[..place + 1],

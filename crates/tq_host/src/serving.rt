@@ -1,6 +1,6 @@
 //! Asks that are answered.
 
-ghost use Rattle.std.specs.Prelude.{◌≡◌, ◌+◌, ◌-◌, ◌^◌, ◌<◌, ◌≤◌, ◌++◌, [], ℕ, List, IfOk, IsTrue, OnOk, OnErr, length};
+ghost use Rattle.std.specs.Prelude.{◌≡◌, ◌≢◌, ◌+◌, ◌-◌, ◌^◌, ◌<◌, ◌≤◌, ◌++◌, [], ℕ, List, IfErr, IfOk, IsTrue, OnOk, OnErr, length};
 ghost use Rattle.std.specs.Io.KnownBytes.{Appends};
 ghost use Rattle.tq_devices.specs.Devices.{AppendsFront};
 ghost use Rattle.tq_host.specs.Told.{Told, IsTold};
@@ -115,6 +115,7 @@ fn flush<P: Wire, W: Sink, L: Log>(
     ensures synced { OnOk result (L.synced log.new ≡ L.kept log.new) }
     ensures written { OnOk result
         (Appends (W.taken writer.old) (W.taken writer.new) batch.old.answers) }
+    ensures short { IfErr result (λ fault. fault ≢ HostFault.TooLong) }
     ensures half { OnErr result (IsHalfOut batch.old.entries batch.old.answers
         (L.kept log.old) (L.kept log.new) (L.synced log.old) (L.synced log.new)
         (W.taken writer.old) (W.taken writer.new)) }
@@ -137,6 +138,7 @@ fn keep<L: Log>(log: &mut L, entries: &[u8]) -> Result<(), HostFault>
     requires logs { L.failed log.old < 2 ^ 64 - 1 }
     ensures kept { OnOk result (Appends (L.kept log.old) (L.kept log.new) entries.now) }
     ensures synced { OnOk result (L.synced log.new ≡ L.kept log.new) }
+    ensures short { IfErr result (λ fault. fault ≢ HostFault.TooLong) }
     ensures half { OnErr result
         ((count : ℕ) × AppendsFront (L.kept log.old) (L.kept log.new) entries.now count) }
     ensures old { OnErr result (L.synced log.new ≡ L.synced log.old) }

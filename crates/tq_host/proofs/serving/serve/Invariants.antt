@@ -6,7 +6,7 @@ use Rattle.tq_host.proofs.serving.serve.Given as goal
 abbrev pub invariant-loop-turn : goal.invariant-loop-turn
 invariant-loop-turn g l = record {
   going : IsTurning g.P.Answers.reply g.P.Answers.after g.P.Wire.reads_ask g.P.Wire.reads g.P.Wire.entry_line g.P.Wire.told_line l.fn.part
-      (g.L.Log.kept l.fn.log) (g.W.Sink.taken l.fn.writer) (g.R.Source.given l.fn.reader)
+      (g.L.Log.kept l.fn.log) (g.W.Sink.taken l.fn.writer) (g.R.Source.given l.fn.reader) l._turn
       (g.L.Log.kept l.log) (g.L.Log.synced l.log) (g.W.Sink.taken l.writer) (g.R.Source.given l.reader)
       l.batch l.line.items (take (l.count - l.at) (drop l.at l.buffer));
   within : (l.at ≤ l.count) × (l.count ≤ 65536);

@@ -1,7 +1,7 @@
 use Rattle.std.proofs.Common.{◌≡◌, ◌∙◌, List, Option, [], sym, ap, subst}
 use Rattle.clap.specs.Kinds.{HasKind}
 use Rattle.clap.specs.Words.{App, Row, Text, fault_of, is_simple, is_simple_and_free, subcommand_of}
-use Rattle.tq_cli.specs.Command.{AsksFor, CanAsk, texts_of}
+use Rattle.tq_cli.specs.Command.{AsksFor, CanAsk, texts_of, tq_app}
 use Rattle.tq_cli.proofs.CommandLaws.{can_ask, refused_by}
 use Rattle.tq_cli.proofs.command.Words.read.Goals as goal
 
@@ -31,4 +31,4 @@ returns-in_err-matches-clause-refused c =
     let error = c.in_err-matches.field-0.0 in
     let P : App → Type 0 = λ a. HasKind (fault_of a words) error in
     let has = subst P app (c.in_err-matches.ensures.kinds (ap is_simple_and_free app)) in
-    refused_by words error c.from_residual-in_err-matches.result has c.from_residual-in_err-matches.ensures.1
+    refused_by tq_app words error c.from_residual-in_err-matches.result has c.from_residual-in_err-matches.ensures.1

@@ -2,12 +2,13 @@ use Rattle.std.proofs.Common.{◌≡◌, ◌∙◌, List, Option, [], sym, ap, s
 use Rattle.clap.specs.Kinds.{HasKind}
 use Rattle.clap.specs.Words.{App, Row, Text, fault_of, is_simple, is_simple_and_free, subcommand_of}
 use Rattle.tq_cli.specs.Command.{texts_of}
-use Rattle.tq_cli.specs.Rehearsal.{AsksFor, CanAsk}
-use Rattle.tq_cli.proofs.FileLaws.{can_ask, refused_by}
-use Rattle.tq_cli.proofs.rehearsal.rehearsed_file.Goals as goal
+use Rattle.tq_cli.specs.TqdWords.{AsksFor, CanAsk, tqd_app}
+use Rattle.tq_cli.proofs.CommandLaws.{refused_by}
+use Rattle.tq_cli.proofs.TqdLaws.{can_ask}
+use Rattle.tq_cli.proofs.tqd_words.TqdWords.read.Goals as goal
 
-pub file_of-requires : goal.file_of-requires
-file_of-requires c =
+pub of-requires : goal.of-requires
+of-requires c =
     let words = texts_of c.args.words.now in
     let app = c.in_ok-command.ensures in
     let P : App → Type 0 = λ a. fault_of a words ≡ [] in
@@ -22,8 +23,8 @@ returns-clause-read c =
     let P : App → Type 0 = λ a. fault_of a words ≡ [] in
     let clean = subst P app (c.in_ok-matches.ensures.kinds (ap is_simple_and_free app)) in
     let found = (c.in_ok-matches.ensures.matches (ap is_simple app)).1 ∙ ap (λ a. subcommand_of a words) app in
-    let Q : Option (Text × List Row) → Type 0 = λ f. AsksFor f c.file_of.result.now in
-    (clean, subst Q found c.file_of.ensures)
+    let Q : Option (Text × List Row) → Type 0 = λ f. AsksFor f c.of.result in
+    (clean, subst Q found c.of.ensures)
 
 pub returns-in_err-matches-clause-refused : goal.returns-in_err-matches-clause-refused
 returns-in_err-matches-clause-refused c =
@@ -32,4 +33,4 @@ returns-in_err-matches-clause-refused c =
     let error = c.in_err-matches.field-0.0 in
     let P : App → Type 0 = λ a. HasKind (fault_of a words) error in
     let has = subst P app (c.in_err-matches.ensures.kinds (ap is_simple_and_free app)) in
-    refused_by words error c.from_residual-in_err-matches.result has c.from_residual-in_err-matches.ensures.1
+    refused_by tqd_app words error c.from_residual-in_err-matches.result has c.from_residual-in_err-matches.ensures.1
