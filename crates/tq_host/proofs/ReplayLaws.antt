@@ -20,12 +20,6 @@ module _ {S A R : Type 0} (reply : S → ℕ → A → R) (after : S → ℕ →
   pub enters-limit : (before : Standing S A R) (line : List ℕ) (next : Standing S A R) → Enters reply after reads before line next → next.limit ≡ before.limit
   enters-limit before line next h = ap (λ (s : Standing S A R). s.limit) h.goes_on
 
-  pub enters-room : (before : Standing S A R) (line : List ℕ) (next : Standing S A R) → Enters reply after reads before line next → length next.journal ≤ before.limit
-  enters-room before line next h =
-      let size : length next.journal ≡ length before.journal + 1 =
-      ap (λ (s : Standing S A R). length s.journal) h.goes_on ∙ length-append before.journal (entry h.entry.ask h.entry.reply ∷ []) in
-      omega (arith, size, h.room)
-
   more-parts : (before left : List ℕ) (count : ℕ) → before ++ left ≡ (before ++ take count left) ++ drop count left
   more-parts before left count =
       ap (λ all. before ++ all) (sym (take-append-drop count left)) ∙ sym (append_assoc before (take count left) (drop count left))

@@ -20,7 +20,6 @@ const MEMORY: &str = "{\"memory\":true}\n";
 #[derive(Drop)]
 pub(crate) struct Batch<P: Wire> {
     part: Journaled<P>,
-    limit: u32,
     entries: Vec<u8>,
     answers: Vec<u8>,
 }
@@ -36,25 +35,21 @@ impl<P: Wire> Model for Batch<P> {
       entries = batch.entries.items;
       answers = batch.answers.items;
     } };
-
-    ghost invariant = { λ batch. batch.part.limit ≡ batch.limit };
 }
 
 impl<P: Wire> Batch<P> {
-    ghost use Rattle.std.specs.Prelude.{◌≡◌, ◌≤◌, ◌<◌, ◌++◌, [], ℕ, List, Some, length, take, OnOk, OnErr};
+    ghost use Rattle.std.specs.Prelude.{◌≡◌, ◌^◌, ◌≤◌, ◌<◌, ◌++◌, [], ℕ, List, Some, length, take, OnOk, OnErr};
     ghost use Rattle.tq_shape.specs.declared.entry.Entry.{Entry};
     ghost use Rattle.tq_host.specs.Told.{Told, IsTold, IsEntered};
     ghost use Rattle.tq_host.specs.Told as told;
     ghost use Rattle.tq_host.specs.Kept.{with_told, nothing_left};
 
     /// A part that answered all.
-    pub(crate) fn new(alloc: Global, part: Journaled<P>, limit: u32) -> Batch<P>
-        requires { part.limit ≡ limit }
+    pub(crate) fn new(alloc: Global, part: Journaled<P>) -> Batch<P>
         ensures { result ≡ nothing_left part }
     {
         Batch {
             part,
-            limit,
             entries: Vec::new(alloc),
             answers: Vec::new(alloc),
         }
@@ -98,7 +93,7 @@ impl<P: Wire> Batch<P> {
             self.tell(BAD)?;
             return Ok(());
         };
-        if self.part.entries().len() >= self.limit as usize {
+        if self.part.is_full() {
             self.tell(FULL)?;
             return Ok(());
         }
@@ -122,6 +117,7 @@ impl<P: Wire> Batch<P> {
     /// Asks the part, and puts the entry and the answer. Where memory is refused all is as it was.
     fn enter(&mut self, alloc: Global, ask: P::Ask) -> Result<(), Memory>
         requires room { length self.old.standing.journal < self.old.standing.limit }
+        requires few { self.old.standing.limit < 2 ^ 32 }
         ensures ok { (line : List ℕ) → P.reads_ask line (Some ask)
             → OnOk result ((e : Entry P.Ask P.Reply)
             × IsEntered P.reply P.after P.reads_ask P.reads P.entry_line self.old.standing line e

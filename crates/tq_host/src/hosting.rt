@@ -44,7 +44,7 @@ pub fn host<P: Wire, R: Source, W: Sink, L: Log>(
 {
     match replay(alloc, part, limit, text) {
         Ok(start) => {
-            if let Err(fault) = serve(alloc, start, limit, log, reader, writer) {
+            if let Err(fault) = serve(alloc, start, log, reader, writer) {
                 return Err(fault);
             }
             Ok(0)

@@ -45,7 +45,7 @@ pub fn replay<P: Wire>(
     let mut now = Journaled::new(alloc, part, limit);
     let mut left = text;
     while let Some(place) = memchr(b'\n', left) {
-        if let Err(fault) = enter_line(alloc, &mut now, limit, &left[..place + 1]) {
+        if let Err(fault) = enter_line(alloc, &mut now, &left[..place + 1]) {
             return Err(fault);
         }
         left = &left[place + 1..];
@@ -57,16 +57,14 @@ pub fn replay<P: Wire>(
 fn enter_line<P: Wire>(
     alloc: Global,
     part: &mut Journaled<P>,
-    limit: u32,
     line: &[u8],
 ) -> Result<(), ReplayFault>
-    requires limit { part.old.limit ≡ limit }
-    requires room { length part.old.journal ≤ limit }
     ensures ok { OnOk result (Enters P.reply P.after P.reads part.old line.now part.new) }
     ensures err { IfErr result (IsLineFault P.reply P.after P.reads part.old line.now) }
 {
+    let is_full = part.is_full();
     let number = part.entries().len() as u64 + 1;
-    if number > limit as u64 {
+    if is_full {
         return Err(ReplayFault::Wrong { number });
     }
     let Some(entry) = part.part().entry_of_line(alloc, line)? else {

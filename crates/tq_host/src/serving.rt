@@ -29,12 +29,10 @@ const LINE_LIMIT: usize = 67_108_864;
 pub fn serve<P: Wire, R: Source, W: Sink, L: Log>(
     alloc: Global,
     part: Journaled<P>,
-    limit: u32,
     log: &mut L,
     reader: &mut R,
     writer: &mut W,
 ) -> Result<(), HostFault>
-    requires limit { part.limit ≡ limit }
     requires synced { L.synced log.old ≡ L.kept log.old }
     requires reads { R.failed reader.old < 2 ^ 64 - 1 }
     requires writes { W.failed writer.old < 2 ^ 64 - 1 }
@@ -47,7 +45,7 @@ pub fn serve<P: Wire, R: Source, W: Sink, L: Log>(
     ensures counts { IsHostCount result (R.failed reader.old) (R.failed reader.new)
         (W.failed writer.old) (W.failed writer.new) (L.failed log.old) (L.failed log.new) }
 {
-    let mut batch = Batch::new(alloc, part, limit);
+    let mut batch = Batch::new(alloc, part);
     let mut line = Vec::new(alloc);
     let mut buffer = [0; PIECE];
     let mut at = 0;

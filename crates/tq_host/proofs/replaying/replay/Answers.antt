@@ -6,11 +6,11 @@ use Rattle.tq_part.specs.Agrees.{standing_part}
 use Rattle.tq_host.specs.Lines.{IsLine}
 use Rattle.tq_host.specs.Replay.{Enters}
 use Rattle.tq_host.proofs.LineLaws.{line-found, no-feed-at-all}
-use Rattle.tq_host.proofs.ReplayLaws.{replaying-on, stops-here, leads-here, log-once, enters-limit, enters-room}
+use Rattle.tq_host.proofs.ReplayLaws.{replaying-on, stops-here, leads-here, log-once, enters-limit}
 use Rattle.tq_host.proofs.replaying.replay.Goals as goal
 
 pub loop-place-init : goal.loop-place-init
-loop-place-init g c = rw c.new-now.ensures (record { going = record { lines = []; parts = refl; whole = tt; entered = refl }; limit = refl; room = omega arith })
+loop-place-init g c = rw c.new-now.ensures (record { going = record { lines = []; parts = refl; whole = tt; entered = refl }; limit = refl })
 
 pub loop-place-preserved : goal.loop-place-preserved
 loop-place-preserved g c =
@@ -25,12 +25,9 @@ loop-place-preserved g c =
     let reads = g.P.Wire.reads in
     let whole : IsLine line = line-found [] left place tt found.0.high (eqb-true _ _ found.1) found.0.before in
     let enters : Enters reply after reads now line next = search rules in
-    let limit = c.loop-place.invariant.limit in
-    let room = enters-room reply after reads now line next enters in
     rw (take_rest left (place + 1)) (record {
       going = replaying-on reply after reads (standing_part c.args.part [] c.args.limit) c.args.text.now now next left (place + 1) c.loop-place.invariant.going whole enters;
-      limit = enters-limit reply after reads now line next enters ∙ limit;
-      room = omega (arith, room, limit);
+      limit = enters-limit reply after reads now line next enters ∙ c.loop-place.invariant.limit;
     })
 
 pub loop-place-smaller : goal.loop-place-smaller

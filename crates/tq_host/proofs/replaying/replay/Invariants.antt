@@ -8,7 +8,6 @@ abbrev pub invariant-loop-place : goal.invariant-loop-place
 invariant-loop-place g l = record {
   going : IsReplaying g.P.Answers.reply g.P.Answers.after g.P.Wire.reads (standing_part l.fn.part [] l.limit) l.text l.now l.left;
   limit : l.now.limit ≡ l.limit;
-  room : length l.now.journal ≤ l.limit;
 }
 
 abbrev pub decreases-loop-place : goal.decreases-loop-place
