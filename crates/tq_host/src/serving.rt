@@ -25,7 +25,7 @@ const LINE_LIMIT: usize = 67_108_864;
 
 /// Answers the lines of the source, one after another, each by one line. The entries of the asks that are taken stand in the
 /// log and are synced before a byte of their answers is written; what is read at once is synced once. What no line feed ends
-/// at the end of the source is no line.
+/// at the end of the source is no line. A line of which more than 64 MiB came, and no line feed, ends it by `TooLong`.
 pub fn serve<P: Wire, R: Source, W: Sink, L: Log>(
     alloc: Global,
     part: Journaled<P>,
