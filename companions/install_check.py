@@ -99,7 +99,7 @@ def repository(folder, tq):
     root, tools = f"{folder}/root", f"{folder}/tools"
     for name in ("bin", "companions/live", "tools", "sessions", ".ci", "crates/tq/out"):
         os.makedirs(f"{root}/{name}")
-    for form in ("bin/install", "bin/live", "companions/live/*.py", "tools/*", "sessions/journals.py", "sessions/plain.py", "README.md"):
+    for form in ("bin/install", "bin/live", "companions/live/*.py", "tools/*", "sessions/*journals.py", "sessions/plain.py", "README.md"):
         for path in glob.glob(f"{ROOT}/{form}"):
             if os.path.isfile(path):
                 shutil.copy(path, f"{root}/{os.path.relpath(path, ROOT)}")
