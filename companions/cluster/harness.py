@@ -21,7 +21,7 @@ class Cluster:
         subprocess.run([f"{HERE}/up", "--dir", folder, *words], check=True)
         self.config, self.said = places.read(folder), open(f"{folder}/said", "ab")
         self.parts, self.servers = places.parts(levels), range(1, 2**levels)
-        self.operator = client.Client(self.config, "operator", open(f"{folder}/receipts/operator", "w", encoding="utf-8"), timeout=1.0)
+        self.operator = client.Client(self.config, "operator", open(f"{folder}/receipts/operator", "w", encoding="utf-8"), timeout=3.0)
 
     def __enter__(self):
         for part in self.parts:
@@ -47,7 +47,7 @@ class Cluster:
         """Until all of them answer."""
         end = time.monotonic() + seconds
         while parts := [part for part in parts if self.operator.length(part) is client.LOST]:
-            if time.monotonic() > end:
+            if time.monotonic() > end or any(self.running[part].poll() is not None for part in parts):
                 raise SystemExit(f"cluster: {parts} do not answer: see {self.folder}/said")
             time.sleep(0.05)
 
