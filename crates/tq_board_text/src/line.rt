@@ -72,7 +72,8 @@ fn push_least(
     requires server { server.levels ≡ tables.now.levels }
     requires room { room.old.servers.levels ≡ tables.now.levels }
     ensures text { OnOk result
-        (Appends text.old text.new (least_text (least_in tables.now.quorums purpose server.number))) }
+        (Appends text.old text.new
+        (least_text (least_in tables.now.quorums purpose server.number))) }
     ensures room { room.new.servers.levels ≡ room.old.servers.levels }
 {
     if !tables.least_into(purpose, server, room) {

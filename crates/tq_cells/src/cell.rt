@@ -8,7 +8,7 @@ ghost use Rattle.tq_cells.specs.Passes.{IsToldBy, IsToldByOneOf, IsUntaken, last
 
 use crate::CallFault;
 use crate::gate::Gate;
-use crate::held::Held;
+use crate::held::{answer, answer_to, since};
 use crate::pass::Pass;
 use crate::receipt::Receipt;
 use crate::settings::Settings;
@@ -26,7 +26,7 @@ use tq_shape::{Entry, Memory, Part};
 #[derive(Drop)]
 pub struct Cell<P: Answers> {
     part: Part,
-    held: Mutex<Held<P>>,
+    held: Mutex<Journaled<P>>,
 }
 
 impl<P: Answers> Model for Cell<P> {
@@ -45,7 +45,7 @@ impl<P: Answers> Cell<P> {
     {
         Cell {
             part,
-            held: Mutex::new(Held::new(alloc, opening, entries)),
+            held: Mutex::new(Journaled::new(alloc, opening, entries)),
         }
     }
 
@@ -77,7 +77,7 @@ impl<P: Answers> Cell<P> {
     {
         let mut held = self.held.lock(rt);
         gate.holding(self.part);
-        let receipt = held.answer_to(alloc, self.part, pass, ask);
+        let receipt = answer_to(&mut held, alloc, self.part, pass, ask);
         drop(held);
         gate.answered(self.part);
         receipt
@@ -107,7 +107,7 @@ impl<P: Answers> Cell<P> {
     {
         let mut held = self.lock(rt, settings);
         gate.holding(self.part);
-        let told = held.answer(alloc, ask);
+        let told = answer(&mut held, alloc, ask);
         drop(held);
         gate.answered(self.part);
         if let Ok(told) = &told {
@@ -117,7 +117,7 @@ impl<P: Answers> Cell<P> {
     }
 
     /// The lock, once it is had and the part is of these settings.
-    fn lock<R: Wait, S: Settings<P>>(&self, rt: &R, settings: &S) -> MutexGuard<'_, Held<P>>
+    fn lock<R: Wait, S: Settings<P>>(&self, rt: &R, settings: &S) -> MutexGuard<'_, Journaled<P>>
         ensures { S.are_of settings.now (mutex_guard_value result).part }
     {
         for _ in rt.forever() {
@@ -146,7 +146,7 @@ impl<P: Answers> Cell<P> {
             ≡ max pass.old.seen (last_behind number (vec_len v))) }
         ensures err { OnErr result (pass.new ≡ pass.old) }
     {
-        self.held.lock(rt).since(alloc, pass, number)
+        since(&self.held.lock(rt), alloc, pass, number)
     }
 
     /// The part beside its journal, once no thread asks it any more. It takes no memory.
@@ -154,7 +154,7 @@ impl<P: Answers> Cell<P> {
         ensures { IsLegalFrom P.reply P.after (P.opening result.part) 1 result.journal }
     {
         let Cell { part: _, held } = self;
-        let journaled = held.into_inner().into_journaled();
+        let journaled = held.into_inner();
         let _ = journaled.entries();
         journaled
     }

@@ -57,9 +57,11 @@ impl<Role> Model for Member<Role> {
 
     ghost Value = { ServerList };
 
-    ghost view = { λ member. list_of (arc_value member.list).levels (arc_value member.list).servers.items };
+    ghost view = { λ member.
+        list_of (arc_value member.list).levels (arc_value member.list).servers.items };
 
-    ghost invariant = { λ member. IsMemberList (arc_value member.list).levels (arc_value member.list).servers.items };
+    ghost invariant = { λ member.
+        IsMemberList (arc_value member.list).levels (arc_value member.list).servers.items };
 }
 
 impl<Role> Member<Role> {

@@ -5,17 +5,16 @@ ghost use Rattle.std.specs.FinMap as fin;
 ghost use Rattle.tq_desk.specs.DeskStep as spec;
 ghost use Rattle.tq_desk.specs.DeskChanges.{names_written, with_names};
 
-use indexmap::IndexMap;
 use std::alloc::Global;
 use std::marker::Model;
 use tq_evidence::Op;
 use tq_shape::{Memory, Seq};
-use tq_store::FileName;
+use tq_store::{BoundedIndexMap, FileName};
 
 /// The files that commits wrote.
 #[derive(Drop)]
 pub(crate) struct WrittenFiles {
-    names: IndexMap<FileName, ()>,
+    names: BoundedIndexMap<FileName, ()>,
 }
 
 impl Model for WrittenFiles {
@@ -35,7 +34,7 @@ impl WrittenFiles {
         ensures { result.files ≡ fin.empty }
     {
         WrittenFiles {
-            names: IndexMap::new(alloc),
+            names: BoundedIndexMap::new(alloc),
         }
     }
 

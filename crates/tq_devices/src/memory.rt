@@ -117,7 +117,12 @@ impl Model for MemorySink {
 
     ghost Value = { KnownSink };
 
-    ghost view = { λ sink. record { taken = sink.bytes.items; calls = sink.calls; fails_at = sink.fails_at; failed = sink.failures } };
+    ghost view = { λ sink. record {
+      taken = sink.bytes.items;
+      calls = sink.calls;
+      fails_at = sink.fails_at;
+      failed = sink.failures;
+    } };
 
     ghost invariant = { λ sink. 0 < sink.piece };
 }

@@ -21,7 +21,11 @@ impl<R: Read> Model for StdSource<R> {
 
     ghost Value = { OuterSource };
 
-    ghost view = { λ source. record { left = R.remaining source.reader; is_ended = source.ended; failed = source.failures } };
+    ghost view = { λ source. record {
+      left = R.remaining source.reader;
+      is_ended = source.ended;
+      failed = source.failures;
+    } };
 }
 
 impl<R: Read> StdSource<R> {

@@ -297,7 +297,8 @@ fn begin_end(
 ) -> Result<(), Memory>
     requires { vec_len txns.old < vec_capacity txns.old }
     ensures text { OnOk result ((others : ℕ) → Appends text.old text.new
-        (asked.begin_end (known.known_of levels limits others txns.old) (line_result answer)).text) }
+        (asked.begin_end (known.known_of levels limits others txns.old)
+        (line_result answer)).text) }
     ensures known { (others : ℕ) → (asked.begin_end
         (known.known_of levels limits others txns.old) (line_result answer)).known
         ≡ known.known_of levels limits others txns.new }

@@ -9,7 +9,7 @@ use Rattle.std.specs.List.Sorted.{IsPermutation}
 use Rattle.smallvec.specs.SmallVec.{SmallVec, HasRoomFor}
 use borrow.Rule.Slice.PartMut.{put_mid}
 use Rattle.tq_locks.specs.Keys.{turn, turned_keys, keys_of, HasRoomBehind}
-use Rattle.tq_locks.proofs.Rings.{length-turn, turned_key}
+use Rattle.tq_locks.proofs.Rings.{length-turn, split_at, turned_key}
 
 pub length-turned : (starts places : List ℕ) → length (turned_keys starts places) ≡ length places
 length-turned [] places = refl
@@ -52,9 +52,6 @@ put_among start place key front back pre block post fits all within =
     ∙ insert-append_right before (here ++ behind) (length pre) (length pre + place) key (length-turned front pre) (omega arith)
     ∙ ap (λ n. before ++ insert (here ++ behind) n key) moved
     ∙ ap (λ keys. before ++ keys) (insert-append_left here behind place key (omega (arith, within, all, length-turn start block)))
-
-split_at : (low k : ℕ) (places : List ℕ) → places ≡ take low places ++ (take k (drop low places) ++ drop k (drop low places))
-split_at low k places = sym (take-append-drop low places) ∙ ap (λ rest. take low places ++ rest) (sym (take-append-drop k (drop low places)))
 
 split_starts : (starts : List ℕ) (b : ℕ) → b < length starts → starts ≡ take b starts ++ get_or starts b 0 ∷ drop (b + 1) starts
 split_starts starts b within = sym (take-append-drop b starts) ∙ ap (λ rest. take b starts ++ rest) (drop_more starts b 0 within)

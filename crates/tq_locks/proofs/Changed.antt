@@ -15,7 +15,7 @@ use Rattle.tq_store.specs.Names.{same_name}
 use Rattle.tq_shape.specs.Journal.{Has}
 use Rattle.tq_locks.specs.declared.keyed.KeyedLocks.{KeyedLocks}
 use Rattle.tq_locks.specs.declared.mode.Lock.{Lock}
-use Rattle.tq_locks.specs.Locks.{LockKey, Locks, lock_cmp, held_of, locks_after_release, only_stable, locks_after_keep, HasNoConflict}
+use Rattle.tq_locks.specs.Locks.{LockKey, Locks, lock_cmp, held_of, locks_after_release, only_stable, HasNoConflict}
 use Rattle.tq_locks.specs.Keys.{place, keys_under}
 use Rattle.tq_locks.specs.Kept.{locks_in, on_file, Agrees}
 use Rattle.tq_locks.proofs.LockMaps.{locks_total, locks_same}

@@ -123,3 +123,83 @@ turned_key block start place all first within =
           ∙ get_or-take start block (place - (2048 - start)) 0 (omega (arith, above, first, within))
           ∙ ap (λ n. get_or block n 0) rest
     ]
+
+-- a list in three parts
+pub split_at : (low k : ℕ) (places : List ℕ) → places ≡ take low places ++ (take k (drop low places) ++ drop k (drop low places))
+split_at low k places = sym (take-append-drop low places) ∙ ap (λ rest. take low places ++ rest) (sym (take-append-drop k (drop low places)))
+
+turned_at : (front back : List ℕ) (n : ℕ) → length front ≡ n → turn n (front ++ back) ≡ back ++ front
+turned_at front back n fits = λ i. drop_at front back n fits i ++ take_at front back n fits i
+
+inserted_at : (front back : List ℕ) (n key : ℕ) → length front ≡ n → insert (front ++ back) n key ≡ front ++ key ∷ back
+inserted_at front back n key fits = λ i. take_at front back n fits i ++ key ∷ drop_at front back n fits i
+
+-- a key comes into a ring that begins one earlier then, where its last was
+around : (front part rest : List ℕ) (start next place last key : ℕ) → length front ≡ start → next ≡ start + 1 → length part ≡ place
+    → turn start (front ++ ((part ++ key ∷ []) ++ rest)) ++ last ∷ [] ≡ insert (turn next (front ++ (last ∷ part ++ rest))) place key
+around front part rest start next place last key fits is size =
+    let ends = front ++ last ∷ [] in
+    ap (λ ks. ks ++ last ∷ []) (turned_at front ((part ++ key ∷ []) ++ rest) start fits)
+    ∙ append_assoc ((part ++ key ∷ []) ++ rest) front (last ∷ [])
+    ∙ append_assoc (part ++ key ∷ []) rest ends
+    ∙ append_assoc part (key ∷ []) (rest ++ ends)
+    ∙ sym (inserted_at part (rest ++ ends) place key size)
+    ∙ ap (λ ks. insert ks place key) (sym (append_assoc part rest ends))
+    ∙ ap (λ ks. insert ks place key) (sym (turned_at ends (part ++ rest) next (omega (arith, length-append front (last ∷ []), fits, is))))
+    ∙ ap (λ ks. insert (turn next ks) place key) (append_assoc front (last ∷ []) (part ++ rest))
+
+pub came_before : (front old rest new : List ℕ) (start next place last key : ℕ) → length front ≡ start → next ≡ start + 1 → length old ≡ place + 1
+    → last ∷ new ≡ old ++ key ∷ []
+    → turn start (front ++ (new ++ rest)) ++ last ∷ [] ≡ insert (turn next (front ++ (old ++ rest))) place key
+came_before front [] rest new start next place last key fits is size same = absurd (omega (arith, size))
+came_before front (first ∷ part) rest new start next place last key fits is size same =
+    let was : last ≡ first = ap (λ ks. get_or ks 0 0) same in
+    let others : new ≡ part ++ key ∷ [] = ap (λ ks. drop 1 ks) same in
+    ap (λ ks. turn start (front ++ (ks ++ rest)) ++ last ∷ []) others
+    ∙ around front part rest start next place last key fits is (omega (arith, size))
+    ∙ ap (λ k. insert (turn next (front ++ (k ∷ part ++ rest))) place key) was
+
+pub left_before : (front old rest new : List ℕ) (start next place taken key : ℕ) → length front ≡ start → next ≡ start + 1 → length old ≡ place + 1
+    → new ++ taken ∷ [] ≡ key ∷ old
+    → insert (turn next (front ++ (new ++ rest))) place taken ≡ turn start (front ++ (old ++ rest)) ++ key ∷ []
+left_before front old rest [] start next place taken key fits is size same = absurd (omega (arith, size, ap length same))
+left_before front old rest (first ∷ part) start next place taken key fits is size same =
+    let was : first ≡ key = ap (λ ks. get_or ks 0 0) same in
+    let others : part ++ taken ∷ [] ≡ old = ap (λ ks. drop 1 ks) same in
+    ap (λ k. insert (turn next (front ++ (k ∷ part ++ rest))) place taken) was
+    ∙ sym (around front part rest start next place key taken fits is (omega (arith, size, length-append part (taken ∷ []), ap length others)))
+    ∙ ap (λ ks. turn start (front ++ (ks ++ rest)) ++ key ∷ []) others
+
+-- the keys behind a place in a ring whose end is in the midst of the block
+behind_end : (front part rest : List ℕ) (start last : ℕ) → length front + length part ≡ start
+    → turn start (front ++ (part ++ rest)) ++ last ∷ [] ≡ rest ++ (front ++ (part ++ last ∷ []))
+behind_end front part rest start last fits =
+    ap (λ ks. turn start ks ++ last ∷ []) (sym (append_assoc front part rest))
+    ∙ ap (λ ks. ks ++ last ∷ []) (turned_at (front ++ part) rest start (length-append front part ∙ fits))
+    ∙ append_assoc rest (front ++ part) (last ∷ [])
+    ∙ ap (λ ks. rest ++ ks) (append_assoc front part (last ∷ []))
+
+within_end : (front part rest : List ℕ) (start place key : ℕ) → length front + length part ≡ start → place ≡ length rest + length front
+    → insert (turn start (front ++ (part ++ rest))) place key ≡ rest ++ (front ++ (key ∷ part))
+within_end front part rest start place key fits is =
+    ap (λ ks. insert (turn start ks) place key) (sym (append_assoc front part rest))
+    ∙ ap (λ ks. insert ks place key) (turned_at (front ++ part) rest start (length-append front part ∙ fits))
+    ∙ ap (λ ks. insert ks place key) (sym (append_assoc rest front part))
+    ∙ inserted_at (rest ++ front) part place key (length-append rest front ∙ sym is)
+    ∙ append_assoc rest front (key ∷ part)
+
+pub came_behind : (front old rest new : List ℕ) (start place last key : ℕ) → length front + length old ≡ start → length new ≡ length old → place ≡ length rest + length front
+    → new ++ last ∷ [] ≡ key ∷ old
+    → turn start (front ++ (new ++ rest)) ++ last ∷ [] ≡ insert (turn start (front ++ (old ++ rest))) place key
+came_behind front old rest new start place last key fits size is same =
+    behind_end front new rest start last (omega (arith, fits, size))
+    ∙ ap (λ ks. rest ++ (front ++ ks)) same
+    ∙ sym (within_end front old rest start place key fits is)
+
+pub left_behind : (front old rest new : List ℕ) (start place taken key : ℕ) → length front + length old ≡ start → length new ≡ length old → place ≡ length rest + length front
+    → taken ∷ new ≡ old ++ key ∷ []
+    → insert (turn start (front ++ (new ++ rest))) place taken ≡ turn start (front ++ (old ++ rest)) ++ key ∷ []
+left_behind front old rest new start place taken key fits size is same =
+    within_end front new rest start place taken (omega (arith, fits, size)) is
+    ∙ ap (λ ks. rest ++ (front ++ ks)) same
+    ∙ sym (behind_end front old rest start key fits)

@@ -4,7 +4,7 @@ ghost use Rattle.std.specs.Bool.{OnTrue};
 ghost use Rattle.std.specs.List.{insert, remove, slice_get};
 ghost use Rattle.std.specs.List.Sorted.{IsPermutation};
 ghost use Rattle.smallvec.specs.SmallVec.{HasRoomFor, small_vec_len};
-ghost use Rattle.tq_locks.specs.Keys.{HasBlocks, HasRoomBehind, Sinks, starts_in, turned_keys};
+ghost use Rattle.tq_locks.specs.Keys.{HasBlocks, HasRoomBehind, Sinks, starts_in, turn, turned_keys};
 
 use smallvec::SmallVec;
 use std::alloc::{AllocError, Global};
@@ -497,9 +497,33 @@ fn put_in_block(
         keys[start] = key;
         return last;
     }
-    keys.rotate_left(starts[block]);
-    starts[block] = 0;
-    open(keys, place, key)
+    let start = starts[block];
+    if start == 0 {
+        return open(keys, place, key);
+    }
+    if start + place < BLOCK {
+        starts[block] = start - 1;
+        return put_before(keys, start, place, key);
+    }
+    put_behind(keys, start, place, key)
+}
+
+/// Puts a key into a place of a ring, and tells the last, which leaves it. The keys before it move, so that the ring begins earlier.
+fn put_before(keys: &mut [usize], start: usize, place: usize, key: usize) -> usize
+    requires { (0 < start) × (start + place ≤ length keys.old) }
+    ensures { turn (start - 1) keys.new ++ result ∷ [] ≡ insert (turn start keys.old) place key }
+{
+    close(&mut keys[start - 1..start + place], 0, key)
+}
+
+/// The same where the keys behind it move, so that the ring begins where it did.
+fn put_behind(keys: &mut [usize], start: usize, place: usize, key: usize) -> usize
+    requires within { (start ≤ length keys.old) × (place < length keys.old) }
+    requires behind { length keys.old ≤ start + place }
+    ensures { turn start keys.new ++ result ∷ [] ≡ insert (turn start keys.old) place key }
+{
+    let at = start + place - keys.len();
+    open(&mut keys[at..start], 0, key)
 }
 
 /// Puts a key into its place in a list, and tells the last, which leaves the list.
@@ -538,9 +562,29 @@ fn take_from_block(
         keys[start] = key;
         return first;
     }
-    keys.rotate_left(start);
-    starts[block] = 0;
-    close(keys, place, key)
+    if start + place < BLOCK {
+        starts[block] = start + 1;
+        return take_before(keys, start, place, key);
+    }
+    take_behind(keys, start, place, key)
+}
+
+/// Takes the key at a place of a ring out. A key comes behind the others. Those before it move, so that the ring begins later.
+fn take_before(keys: &mut [usize], start: usize, place: usize, key: usize) -> usize
+    requires { start + place < length keys.old }
+    ensures { insert (turn (start + 1) keys.new) place result ≡ turn start keys.old ++ key ∷ [] }
+{
+    open(&mut keys[start..start + place + 1], 0, key)
+}
+
+/// The same where the keys behind it move, so that the ring begins where it did.
+fn take_behind(keys: &mut [usize], start: usize, place: usize, key: usize) -> usize
+    requires within { (start ≤ length keys.old) × (place < length keys.old) }
+    requires behind { length keys.old ≤ start + place }
+    ensures { insert (turn start keys.new) place result ≡ turn start keys.old ++ key ∷ [] }
+{
+    let at = start + place - keys.len();
+    close(&mut keys[at..start], 0, key)
 }
 
 /// Takes the key at a place out of a list. A key comes behind the others.

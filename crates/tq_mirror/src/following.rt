@@ -26,7 +26,8 @@ impl Prefixes {
         ensures same { self.new ≡ self.old }
         ensures ahead { IfOk result (λ found. MatchOption found
             (IsForeign self.old (Part.Server number) (Entries.Server entries.now) least)
-            (λ ahead. AreAhead ahead self.old (Part.Server number) (Entries.Server entries.now) least)) }
+            (λ ahead. AreAhead ahead self.old
+            (Part.Server number) (Entries.Server entries.now) least)) }
     {
         let known = self.server(number).len();
         if are_few(known, entries.len(), least) {

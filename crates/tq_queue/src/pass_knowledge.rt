@@ -66,7 +66,8 @@ impl<M> Outcome<M, PassKnowledge<M>> for Takes {
     ghost use Rattle.std.specs.Prelude.{◌≡◌, ℕ, [], ◌∷◌, ◌++◌};
     ghost use Rattle.tq_queue.specs.Rule.{hand};
 
-    ghost then = { λ v x w. (place : ℕ) × (w ≡ hand v.parts v.puts v.put (v.taken ++ (place, x) ∷ [])) };
+    ghost then = { λ v x w. (place : ℕ)
+        × (w ≡ hand v.parts v.puts v.put (v.taken ++ (place, x) ∷ [])) };
 }
 
 impl<M> Lesson<M, PassKnowledge<M>> for Takes {

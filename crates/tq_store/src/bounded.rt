@@ -10,7 +10,7 @@ ghost use Rattle.tq_store.specs.Lends.{lends_at, lends_get};
 use crate::ordered::Ordered;
 use indexmap::IndexMap;
 use std::alloc::{AllocError, AllocFailed, Global};
-use std::hash::Hash;
+use std::hash::{BuildHasher, Hash};
 use std::marker::Model;
 use std::mem::replace;
 use tq_shape::ExactClone;
@@ -18,10 +18,16 @@ use tq_shape::ExactClone;
 /// The most entries that room is made for in a hash table.
 pub(crate) const MOST_HASHED: usize = 1024;
 
+/// As many tags a hash table has: it compares its keys with those of one tag and place.
+const TAGS: usize = 256;
+
+/// As many keys of one tag, beside a share of all, are seen as chosen.
+const FEW: usize = 16;
+
 /// A map whose entries keep their order, as an `IndexMap`, where strangers may choose the keys.
 ///
 /// Up to `MOST_HASHED` entries are in an `IndexMap`. Keys can be chosen so that all are in one place of its hash table, and then a
-/// look-up there walks them all; so more entries are in a list beside an ordered map.
+/// look-up there walks them all; so more entries are in a list beside an ordered map, and so are fewer whose keys seem chosen.
 pub struct BoundedIndexMap<K: Ord + Hash, V> {
     few: IndexMap<K, V>,
     /// Empty until there are many.
@@ -229,7 +235,9 @@ impl<K: Ord + Hash + Copy + Drop, V: Drop> BoundedIndexMap<K, V> {
             return Ok(());
         }
         if additional <= MOST_HASHED.saturating_sub(self.few.len()) {
-            return self.few.reserve(additional);
+            if !seem_chosen(&self.few) {
+                return self.few.reserve(additional);
+            }
         }
         self.many
             .reserve(self.few.len().saturating_add(additional))?;
@@ -333,6 +341,21 @@ impl<K: Ord + Hash + Copy + Drop, V: Drop> BoundedIndexMap<K, V> {
         }
         self.few.swap_remove(key)
     }
+}
+
+/// Whether far more of the keys have one tag than have it by chance. Nothing but the time of look-ups rests on it.
+fn seem_chosen<K: Ord + Hash + Copy + Drop, V>(few: &IndexMap<K, V>) -> bool {
+    let most = FEW + few.len() / FEW;
+    let mut counts = [0usize; TAGS];
+    for key in few.keys() {
+        let hash = few.hasher().hash_one(*key);
+        let tag = ((hash ^ (hash >> 32)) >> 24) as usize % TAGS;
+        counts[tag] = counts[tag].saturating_add(1);
+        if most < counts[tag] {
+            return true;
+        }
+    }
+    false
 }
 
 /// Moves the entries into the list, in their order.

@@ -50,9 +50,12 @@ impl<K: Ord, V> Model for Ordered<K, V> {
 
     ghost coded = { bounded_code K.code V.code };
 
-    ghost view = { λ a. hash_map (zip a.keys.items a.values.items) tt (min a.keys.cap a.values.cap - length a.keys.items) };
+    ghost view = { λ a. hash_map (zip a.keys.items a.values.items) tt
+        (min a.keys.cap a.values.cap - length a.keys.items) };
 
-    ghost invariant = { λ a. (length a.values.items ≡ length a.keys.items) × IsDistinct K.eq a.keys.items × ArePlaced K.cmp K.eq a.places a.placed a.keys.items };
+    ghost invariant = { λ a. (length a.values.items ≡ length a.keys.items)
+        × IsDistinct K.eq a.keys.items
+        × ArePlaced K.cmp K.eq a.places a.placed a.keys.items };
 }
 
 impl<K: Ord, V> Ordered<K, V> {

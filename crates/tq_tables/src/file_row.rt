@@ -70,7 +70,8 @@ impl FileRow {
         requires levels { self.old.stale.levels ≡ self.old.current.levels }
         requires within { All (λ number. number ≤ length nodes.now) servers.now.numbers }
         ensures stands { self.new
-            ≡ stood_in nodes.now self.old (servers_of_numbers servers.now.levels servers.now.numbers) }
+            ≡ stood_in nodes.now self.old
+            (servers_of_numbers servers.now.levels servers.now.numbers) }
         ensures ascending { Ascends 0 servers.now.numbers }
     {
         for server in servers.iter() {

@@ -11,20 +11,19 @@ ghost use Rattle.tq_tables.specs.Early.{HaveRows, has_row};
 
 use crate::FileRow;
 use crate::file_rows::copy_files;
-use indexmap::IndexMap;
 use std::alloc::Global;
 use std::marker::Model;
 use tq_asks::{NodeAsk, WorkAsk};
 use tq_node::{Node, Raised};
 use tq_shape::{Levels, Memory};
-use tq_store::{FileName, Write};
+use tq_store::{BoundedIndexMap, FileName, Write};
 
 /// A row for each file, in the order in which the files came. The row of a file is found at once by its name, and
 /// changes without memory.
 #[derive(Drop)]
 pub(crate) struct FileTable {
     levels: Levels,
-    rows: IndexMap<FileName, FileRow>,
+    rows: BoundedIndexMap<FileName, FileRow>,
     /// Where a row was found last: the place at which one is looked for first. Nothing rests on it.
     last: usize,
 }
@@ -68,7 +67,7 @@ impl FileTable {
     {
         FileTable {
             levels,
-            rows: IndexMap::new(alloc),
+            rows: BoundedIndexMap::new(alloc),
             last: 0,
         }
     }
@@ -95,7 +94,7 @@ impl FileTable {
         ensures of_tree { AreOfLevels self.now.levels result.now }
     {
         let _levels = self.levels;
-        self.rows.values().as_slice()
+        self.rows.values()
     }
 
     /// The row of the file, if it has one.
@@ -181,7 +180,7 @@ impl FileTable {
         ensures found { result ≡ has_row self.old.rows file.now }
     {
         let last = self.last;
-        if has_row_at(&self.rows, last, file) {
+        if has_row_at(self.rows(), last, file) {
             self.set_currency_at(last, node, file, least);
             return true;
         }
@@ -257,18 +256,23 @@ impl FileTable {
 
 /// Whether the row of the file stands at the place.
 #[inline(always)]
-fn has_row_at(rows: &IndexMap<FileName, FileRow>, place: usize, file: &FileName) -> bool
-    ensures { OnTrue result (HasRowAt rows.now.entries place file.now) }
+fn has_row_at(rows: &[FileRow], place: usize, file: &FileName) -> bool
+    ensures { OnTrue result (HasRowAt (by_file rows.now) place file.now) }
 {
-    match rows.get_index(place) {
-        Some(entry) => *entry.0 == *file,
+    match rows.get(place) {
+        Some(row) => row.file == *file,
         None => false,
     }
 }
 
 /// In the row at the place, if there is one, the server is current or stale as its copy says. It takes no memory.
 #[inline(always)]
-fn set_currency_in(rows: &mut IndexMap<FileName, FileRow>, place: usize, node: &Node, least: u64)
+fn set_currency_in(
+    rows: &mut BoundedIndexMap<FileName, FileRow>,
+    place: usize,
+    node: &Node,
+    least: u64,
+)
     requires least { spec.ReachesRowAt rows.old.entries place node.now least }
     requires levels { spec.FitsRowAt rows.old.entries place node.now }
     ensures { spec.StandsAt rows.old.entries rows.new.entries place node.now }

@@ -71,7 +71,8 @@ impl<'a> Model for OpenIntents<'a> {
 
     ghost Value = { List IntentRow };
 
-    ghost view = { λ a. left_at (intent_state_at a.desk.now) a.here ++ intent_rows (intent_state_at a.desk.now) a.nodes.now };
+    ghost view = { λ a. left_at (intent_state_at a.desk.now) a.here
+        ++ intent_rows (intent_state_at a.desk.now) a.nodes.now };
 }
 
 impl<'a> OpenIntents<'a> {

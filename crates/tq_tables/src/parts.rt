@@ -42,7 +42,8 @@ impl Model for Parts {
 
     ghost Value = { PartsView };
 
-    ghost coded = { parts_code record_type.the_row.coded vote_type.the_row.coded verdict_type.the_row.coded };
+    ghost coded = { parts_code
+        record_type.the_row.coded vote_type.the_row.coded verdict_type.the_row.coded };
 
     ghost view = { λ a. record { nodes = a.nodes.items; desk = a.desk; view = a.view } };
 

@@ -67,7 +67,10 @@ impl Model for Tables {
 
     ghost Value = { TablesView };
 
-    ghost coded = { tables_code record_type.the_row.coded vote_type.the_row.coded verdict_type.the_row.coded quorum_type.the_row.coded file_type.the_row.coded lock_type.the_row.coded intent_type.the_row.coded ready_type.the_row.coded };
+    ghost coded = { tables_code
+        record_type.the_row.coded vote_type.the_row.coded verdict_type.the_row.coded
+        quorum_type.the_row.coded file_type.the_row.coded lock_type.the_row.coded
+        intent_type.the_row.coded ready_type.the_row.coded };
 
     ghost view = { λ a. with_ready (tables_in a.followed) (reserved_entry a.ready) };
 

@@ -88,7 +88,8 @@ pub fn say_reading(
     reading: &ReadAnswer,
 ) -> Result<(), Memory>
     ensures text { OnOk result
-        (Prints text.old text.new (spec.reading_text file.now (option_copied op.entry) reading.now)) }
+        (Prints text.old text.new
+        (spec.reading_text file.now (option_copied op.entry) reading.now)) }
     ensures kept { OnErr result (Extends text.old.items text.new.items) }
 {
     match reading {

@@ -8,35 +8,25 @@ use Rattle.tq_part.specs.declared.fault.AskFault.{AskFault}
 use Rattle.tq_part.specs.declared.fault.AskFault.TheVariants as ask_faults
 use Rattle.tq_asks.specs.declared.ask.Verdict.{Verdict}
 use Rattle.tq_desk.specs.declared.ask.DeskAsk.{DeskAsk}
-use Rattle.tq_desk.specs.declared.ask.DeskAsk.TheVariants as asks
 use Rattle.tq_txn_states.specs.declared.told.DeskTold.{DeskTold}
-use Rattle.tq_txn_states.specs.Ended.{verdict_in, verdict_by, commit_verdict, resolve_verdict}
+use Rattle.tq_txn_states.specs.Ended.{verdict_in, verdict_by, commit_verdict}
 use Rattle.tq_txn_states.specs.Open.{OpenView}
 use Rattle.tq_txn_states.specs.Voting.{VotingView, evidence_of}
 use Rattle.tq_txn.specs.declared.asker.Exchange.{Exchange}
 use Rattle.tq_txn.specs.declared.txn.Txn.{Txn}
 use Rattle.tq_txn.specs.declared.txn.Txn.TheVariants as states
-use Rattle.tq_txn.specs.Aborts.{resolved_by, resolved_with, txn_after_resolve}
+use Rattle.tq_txn.specs.Aborts.{resolved_by, txn_after_resolve}
 use Rattle.tq_txn.specs.Dialogue.{desk_exchange}
-use Rattle.tq_txn.specs.States.{number_of, levels_of, IsStill}
+use Rattle.tq_txn.specs.States.{number_of, IsStill}
 use Rattle.tq_txn.specs.Told.{IsAnswered, is_ended, tells_end, EndsWhereTold}
 use Rattle.tq_txn.proofs.LineLaws.{further}
 use Rattle.tq_txn.proofs.KeptVotes.{voted_on_same}
 
 -- ---- the verdict in an answer
 
-module _ (number : ℕ) (told : DeskTold) where
-  resolve_told : told.ask ≡ asks.Resolve number → verdict_in number told ≡ resolve_verdict told.reply
-  resolve_told asked = ap (λ ask. verdict_by number ask told.reply) asked ∙ ap (λ b. cond b (resolve_verdict told.reply) None) (eq-eqb number number refl)
-
 pub commit_told : (old : VotingView) (told : DeskTold) → told.ask ≡ evidence_of old → verdict_in old.txn.txn told ≡ commit_verdict old.votes told.reply
 commit_told old told asked =
     ap (λ ask. verdict_by old.txn.txn ask told.reply) asked ∙ ap (λ b. cond b (commit_verdict old.votes told.reply) None) (eq-eqb old.txn.txn old.txn.txn refl)
-
-pub resolved_told : (txn : Txn) (told : DeskTold) → told.ask ≡ asks.Resolve (number_of txn) → resolved_with txn told.number (resolve_verdict told.reply) ≡ txn_after_resolve txn told
-resolved_told (states.Open old) told asked = ap (resolved_by (states.Open old) old told.number) (sym (resolve_told old.txn told asked))
-resolved_told (states.Voting old) told asked = ap (resolved_by (states.Voting old) old.txn told.number) (sym (resolve_told old.txn.txn told asked))
-resolved_told (states.Ended old) told asked = refl
 
 -- ---- the transaction after it
 
@@ -65,15 +55,6 @@ pub resolved_still : (txn : Txn) (told : DeskTold) → IsStill txn (txn_after_re
 resolved_still (states.Open old) told = open_still old told.number (verdict_in old.txn told)
 resolved_still (states.Voting old) told = voting_still old told.number (verdict_in old.txn.txn told)
 resolved_still (states.Ended old) told = refl
-
-by_levels : (before : Txn) (old : OpenView) (cite : ℕ) (verdict : Option Verdict) → levels_of before ≡ old.levels → levels_of (resolved_by before old cite verdict) ≡ levels_of before
-by_levels before old cite None same = refl
-by_levels before old cite (Some verdict) same = sym same
-
-pub resolved_levels : (txn : Txn) (told : DeskTold) → levels_of (txn_after_resolve txn told) ≡ levels_of txn
-resolved_levels (states.Open old) told = by_levels (states.Open old) old told.number (verdict_in old.txn told) refl
-resolved_levels (states.Voting old) told = by_levels (states.Voting old) old.txn told.number (verdict_in old.txn.txn told) refl
-resolved_levels (states.Ended old) told = refl
 
 by_ends : (before : Txn) (old : OpenView) (cite : ℕ) (verdict : Option Verdict) → is_some verdict ≡ true → is_ended (resolved_by before old cite verdict) ≡ true
 by_ends before old cite None some = cc

@@ -150,10 +150,6 @@ read_fault old file answers = refuse (is_used old.ops file) AlreadyThere (grants
 abbrev pub is_full : ℕ → Bool
 is_full version = not (nat_lt (version + 1) (2 ^ 64))
 
--- the version that a write by these grants makes, none where it does not fit
-abbrev pub version_after : List Grant → Option ℕ
-version_after grants = if is_full (greatest grants) then None else Some (greatest grants + 1)
-
 -- what a write by these grants is refused for
 abbrev pub version_fault : List Grant → Option TxnFault
 version_fault grants = refuse (is_full (greatest grants)) VersionFull None

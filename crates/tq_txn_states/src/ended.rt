@@ -43,7 +43,13 @@ impl Model for Ended {
 
     ghost Value = { EndedView };
 
-    ghost view = { λ a. record { levels = a.levels; txn = a.txn; verdict = a.verdict; cite = a.cite; servers = a.servers.servers } };
+    ghost view = { λ a. record {
+      levels = a.levels;
+      txn = a.txn;
+      verdict = a.verdict;
+      cite = a.cite;
+      servers = a.servers.servers;
+    } };
 
     ghost invariant = { λ a. a.servers.levels ≡ a.levels };
 }

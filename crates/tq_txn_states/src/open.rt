@@ -201,7 +201,8 @@ impl Open {
         requires fresh { spec.is_used self.old.ops file.now ≡ false }
         requires member { spec.is_member self.old.levels grants.items ≡ true }
         ensures value { IfOk result (λ copy. copy ≡ spec.read_copy grants.items) }
-        ensures after { OnOk result (self.new ≡ txn_after_op self.old (read_op file.now grants.items)) }
+        ensures after { OnOk result (self.new
+            ≡ txn_after_op self.old (read_op file.now grants.items)) }
         ensures err { OnErr result (self.new ≡ self.old) }
     {
         let given = read_twice(grants.as_slice())?;
@@ -390,7 +391,8 @@ impl Open {
         ensures succeeds { OnOk result (grants_fault kind self.now file.now answers.now ≡ None) }
         ensures grants { IfOk result (λ grants.
             grants.items ≡ spec.grants_of kind self.now.txn file.now answers.now) }
-        ensures member { IfOk result (λ grants. spec.is_member self.now.levels grants.items ≡ true) }
+        ensures member { IfOk result (λ grants.
+            spec.is_member self.now.levels grants.items ≡ true) }
         ensures fault { IfErr result (ComesOf (grants_fault kind self.now file.now answers.now)) }
     {
         if self.is_full() {

@@ -144,7 +144,8 @@ fn is_above(ids: &[ServerId], number: u64) -> bool
 
 /// Whether the number is that of the server at the place.
 fn stands_at(ids: &[ServerId], number: u64, place: usize) -> bool
-    ensures value { result ≡ option_map_or (λ id. id.number == number) (slice_get ids.now place) false }
+    ensures value { result
+        ≡ option_map_or (λ id. id.number == number) (slice_get ids.now place) false }
     ensures within { IsTrue result → place < length ids.now }
 {
     match ids.get(place) {

@@ -50,7 +50,8 @@ impl Model for Voting {
 
     ghost view = { λ a. record { txn = a.txn; votes = a.votes.items } };
 
-    ghost invariant = { λ a. IsVoting (record { txn = a.txn; votes = a.votes.items }) × HasWhole a.txn a.asked };
+    ghost invariant = { λ a. IsVoting (record { txn = a.txn; votes = a.votes.items })
+        × HasWhole a.txn a.asked };
 }
 
 impl Voting {

@@ -1,6 +1,7 @@
-use Rattle.std.specs.Prelude.{slice_get}
+use Rattle.std.specs.Prelude.{slice_get, IfSome}
 use Rattle.std.proofs.Common.{◌≡◌, ◌∙◌, ℕ, List, Option, is_some, map, ap, subst, sym}
 use Rattle.std.specs.Map.{lookup}
+use Rattle.indexmap.proofs.MapLemmas.{value_index}
 use Rattle.tq_store.specs.Names.{same_name}
 use Rattle.tq_tables.specs.Early.{has_row}
 use Rattle.tq_tables.specs.Files.{FilesView}
@@ -13,8 +14,11 @@ pub set_currency_at-requires-clause-there : goal.set_currency_at-requires-clause
 set_currency_at-requires-clause-there c =
     let file = c.args.file.now in
     let place = c.in-Some.place in
-    found-there c.self.inside.levels file (map (λ entry. entry.1) c.self.inside.rows.entries) place c.self.invariant.of_tree
-    (subst (λ (es : List (List ℕ × FileRow)). slice_get (map (λ entry. entry.1) es) place ≡ lookup (same_name file) es) c.self.invariant.named c.in-Some.ensures.value)
+    let entries = c.self.inside.rows.entries in
+    let value : slice_get (map (λ entry. entry.1) entries) place ≡ lookup (same_name file) entries =
+    subst (λ (o : Option ℕ). IfSome o (λ at. slice_get (map (λ entry. entry.1) entries) at ≡ lookup (same_name file) entries)) (sym c.in-Some.ensures.index) (value_index (same_name file) entries) in
+    found-there c.self.inside.levels file (map (λ entry. entry.1) entries) place c.self.invariant.of_tree
+    (subst (λ (es : List (List ℕ × FileRow)). slice_get (map (λ entry. entry.1) es) place ≡ lookup (same_name file) es) c.self.invariant.named value)
     (c.in-Some.ensures.found ∙ ap (λ es. is_some (lookup (same_name file) es)) c.self.invariant.named)
 
 pub returns-in_default-clause-found : goal.returns-in_default-clause-found
