@@ -37,6 +37,7 @@ RUNS = [
     (["tq-picture", f"{ROOT}/examples/journals/stuck.json"], b"", b"</svg>"),
     (["tq-why", f"{ROOT}/examples/journals/stuck.json"], b"", b"tq audit says the same"),
     (["tq-shrink", f"{ROOT}/examples/journals/stuck.json"], b"", b'"view":[]}'),
+    (["tq-cluster", "--help"], b"", b"asked of a cluster"),
     (["tq", "audit"], b"{}", b"unreadable"),
 ]
 
@@ -97,9 +98,10 @@ echo 134 passed, 0 failed
 def repository(folder, tq):
     """A small repository with what a release takes, and stand-ins for gate and kit. Returns the way to run commands in it."""
     root, tools = f"{folder}/root", f"{folder}/tools"
-    for name in ("bin", "companions/live", "tools", "sessions", ".ci", "crates/tq/out"):
+    for name in ("bin", "companions/cluster/units", "companions/live", "tools", "sessions", ".ci", "crates/tq/out"):
         os.makedirs(f"{root}/{name}")
-    for form in ("bin/install", "bin/live", "companions/live/*.py", "tools/*", "sessions/journals.py", "sessions/plain.py", "README.md"):
+    cluster = ("companions/cluster/*", "companions/cluster/units/*")
+    for form in ("bin/install", "bin/live", *cluster, "companions/live/*.py", "tools/*", "sessions/*journals.py", "sessions/plain.py", "README.md"):
         for path in glob.glob(f"{ROOT}/{form}"):
             if os.path.isfile(path):
                 shutil.copy(path, f"{root}/{os.path.relpath(path, ROOT)}")

@@ -1,7 +1,8 @@
 #!/usr/bin/env python3
 """sessions/read_journals: a journal file as journals of sessions/plain.py, and a plain shell over them; the other way of sessions/journals.py.
 
-It takes files of format 2 that are right, as `tq threads` writes them, and trusts them: sessions/files has those that are not."""
+It takes values of the form of journal files, which tools/form.py looks at, and trusts them. A content is the text of its bytes, those that are no UTF-8 among
+them, so that no byte is lost on the way."""
 import json
 import sys
 
@@ -10,7 +11,7 @@ import plain
 
 
 def content(digits):
-    return bytes.fromhex(digits).decode("latin-1")
+    return bytes.fromhex(digits).decode("utf-8", "surrogateescape")
 
 
 def writes(given):
@@ -44,15 +45,13 @@ ASKS = {
     "release": lambda it: ("release", it["txn"]),
     "peek": lambda it: ("peek", it["file"]),
     "refresh": lambda it: ("refresh", it["file"], it["version"], content(it["content"]), (it["from"]["server"], it["from"]["number"])),
-    "crash": lambda it: ("crash",),
-    "return": lambda it: ("return",),
     "crashin": lambda it: ("crash in", ask(it["ask"]), it["after"]),
-    "begin": lambda it: ("begin",),
     "commit": lambda it: ("commit", it["txn"], tuple(map(op, it["ops"])), tuple(map(vote, it["votes"]))),
     "resolve": lambda it: ("resolve", it["txn"]),
-    "setcost": lambda it: ("set cost", it["server"], it["read"], it["write"]),
+    # In format 1 a cost is both costs, and a choice is for reading.
+    "setcost": lambda it: ("set cost", it["server"], it.get("read", it.get("cost")), it.get("write", it.get("cost"))),
     "mark": lambda it: ("mark", it["server"], it["up"]),
-    "choose": lambda it: ("choose", it["purpose"]),
+    "choose": lambda it: ("choose", it.get("purpose", "read")),
 }
 REPLIES = {
     "granted": lambda it: ("granted", it["version"], content(it["content"])),
@@ -75,11 +74,15 @@ MORE_OF_REFUSALS = {
 
 
 def ask(given):
-    return ASKS[given["is"]](given)
+    return ASKS.get(given["is"], lambda it: (it["is"],))(given)
 
 
 def reply(given):
-    return REPLIES[given["is"]](given) if given["is"] in REPLIES else (given["is"],)
+    return REPLIES.get(given["is"], lambda it: (it["is"],))(given)
+
+
+def entry(given):
+    return ask(given["ask"]), reply(given["reply"])
 
 
 def shell_over(text):
@@ -88,7 +91,7 @@ def shell_over(text):
     shell = plain.Shell(file["levels"])
     lists = [*enumerate(file["servers"], 1), ("desk", file["desk"]), ("view", file["view"])]
     for part, entries in lists:
-        shell.world.journals[part] = [(ask(it["ask"]), reply(it["reply"])) for it in entries]
+        shell.world.journals[part] = [*map(entry, entries)]
     for server in shell.world.servers:
         for number, (asked, _) in enumerate(shell.world.journals[server], 1):
             _, shell.world.records[server] = plain.server_step(shell.world.records[server], server, number, asked)

@@ -13,15 +13,15 @@ HERE = os.path.dirname(os.path.realpath(__file__))
 
 
 class Cluster:
-    """`hosts` has the program of parts that have one of their own. `base` is the first of its ports."""
+    """`hosts` has the program of parts that have one of their own."""
 
-    def __init__(self, folder, levels, host, base, redis=None, hosts=()):
+    def __init__(self, folder, levels, host, redis=None, hosts=()):
         self.folder, self.host, self.hosts, self.running = folder, host, dict(hosts), {}
-        words = ["--levels", str(levels), "--base", str(base), "--host", "/bin/false", "--seconds", "0", *["--transport", "redis", "--redis", redis] * bool(redis)]
-        subprocess.run([f"{HERE}/up", "--dir", folder, *words], stderr=subprocess.DEVNULL, check=False)
+        words = ["--levels", str(levels), "--make", *["--transport", "redis", "--redis", redis] * bool(redis)]
+        subprocess.run([f"{HERE}/up", "--dir", folder, *words], check=True)
         self.config, self.said = places.read(folder), open(f"{folder}/said", "ab")
         self.parts, self.servers = places.parts(levels), range(1, 2**levels)
-        self.operator = client.Client(self.config, "operator", open(f"{folder}/receipts/operator", "w", encoding="utf-8"), timeout=1.0)
+        self.operator = client.Client(self.config, "operator", open(f"{folder}/receipts/operator", "w", encoding="utf-8"), timeout=3.0)
 
     def __enter__(self):
         for part in self.parts:
@@ -43,11 +43,11 @@ class Cluster:
             os.remove(f"{self.folder}/{part}/host.pid")
         self.running[part] = subprocess.Popen(words, stdin=subprocess.DEVNULL, stdout=self.said, stderr=self.said)
 
-    def wait(self, parts, seconds=60):
+    def wait(self, parts, seconds=300):
         """Until all of them answer."""
         end = time.monotonic() + seconds
         while parts := [part for part in parts if self.operator.length(part) is client.LOST]:
-            if time.monotonic() > end:
+            if time.monotonic() > end or any(self.running[part].poll() is not None for part in parts):
                 raise SystemExit(f"cluster: {parts} do not answer: see {self.folder}/said")
             time.sleep(0.05)
 
@@ -66,6 +66,13 @@ class Cluster:
             self.signal(part, what, signal.SIGKILL)
             time.sleep(0.02)
         return self.running.pop(part).returncode
+
+    def tear(self, part, torn):
+        """Puts what is no whole line behind the log, once its host has ended."""
+        while places.is_hosted(self.folder, part):
+            time.sleep(0.02)
+        with open(self.log(part), "ab") as it:
+            it.write(torn)
 
     def pause(self, part, what):
         self.signal(part, what, signal.SIGSTOP)

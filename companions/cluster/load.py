@@ -12,7 +12,7 @@ sys.path.insert(0, os.path.dirname(os.path.realpath(__file__)))
 import client
 import places
 
-FILES, PAUSE = 8, 0.04
+FILES, PAUSE = 8, 0.15
 
 
 class Lossy:
@@ -44,7 +44,7 @@ def work_of(asker, dice):
 def main(folder, name, seed, lost):
     dice, count = random.Random(int(seed)), dict.fromkeys(("commits", "given up", "undecided"), 0)
     random.seed(int(seed))
-    with open(f"{folder}/receipts/{name}", "w", encoding="utf-8") as receipts, open(f"{folder}/{name}.done", "w", encoding="utf-8") as done:
+    with open(f"{folder}/receipts/{name}", "w", encoding="utf-8") as receipts, open(f"{folder}/{name}.done", "w", 1, encoding="utf-8") as done:
         asker = client.Client(places.read(folder), name, receipts, timeout=0.7, patience=1.0)
         asker.link = Lossy(asker.link, dice, float(lost))
         while not os.path.exists(f"{folder}/end"):

@@ -1,9 +1,16 @@
 """The folder of a cluster: cluster.json, which says where each part is asked, and of each part on this machine a folder with its log."""
+import fcntl
 import json
 import os
+import random
+import socket
+import sys
+
+ROOT = os.path.dirname(os.path.dirname(os.path.dirname(os.path.realpath(__file__))))
+sys.path.insert(0, f"{ROOT}/tools")
+import program
 
 FILE = "cluster.json"
-ROOT = os.path.dirname(os.path.dirname(os.path.dirname(os.path.realpath(__file__))))
 
 
 class Absent(Exception):
@@ -20,8 +27,8 @@ def read(folder):
 
 
 def host():
-    """The program that hosts a part, where no other is given."""
-    return f"{ROOT}/companions/cluster/host.py"
+    """The program that hosts a part, where no other is given: TQ_HOST, else tqd."""
+    return os.environ.get("TQ_HOST") or program.built("tqd") or f"{ROOT}/bin/tqd"
 
 
 def parts(levels):
@@ -52,6 +59,32 @@ def make(folder, part):
         os.close(at)
 
 
+def is_hosted(folder, part):
+    """Whether a host has the log: it has the lock of it for as long as it lives, also when its bridge is gone."""
+    with open(log_of(folder, part), "rb") as log:
+        try:
+            fcntl.flock(log, fcntl.LOCK_EX | fcntl.LOCK_NB)
+        except BlockingIOError:
+            return True
+    return False
+
+
 def address(text):
     host, _, port = text.rpartition(":")
     return host, int(port)
+
+
+def ports(count):
+    """The first of so many ports that nobody has here, below those that the system gives to clients."""
+    while not all(map(is_free, range(base := random.randrange(10_000, 30_000), base + count))):
+        pass
+    return base
+
+
+def is_free(port):
+    with socket.socket() as it:
+        try:
+            it.bind(("127.0.0.1", port))
+        except OSError:
+            return False
+    return True
