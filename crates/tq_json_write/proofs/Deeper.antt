@@ -1,5 +1,5 @@
 -- What nests no deeper than so many levels nests no deeper than more of them.
-use Rattle.std.proofs.Common.{◌≤◌, ◌<◌, ◌-◌, ℕ, arith}
+use Rattle.std.proofs.Common.{◌≤◌, ◌-◌, ℕ, arith}
 use Rattle.serde_json.specs.Data.{Data, null, boolean, number, string, array, object, Items, no_items, item, Members, no_members, member}
 use Rattle.tq_json_write.proofs.Shape.{IsShaped, AreShaped, HasShaped}
 

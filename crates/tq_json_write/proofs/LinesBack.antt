@@ -1,6 +1,6 @@
 -- The line of an entry is read as the entry.
 use Rattle.std.specs.Prelude.{IsUtf8}
-use Rattle.std.proofs.Common.{◌≡◌, ◌≤◌, ℕ, List, Option, Some, arith}
+use Rattle.std.proofs.Common.{◌≡◌, ℕ, List, Option, Some, arith}
 use Rattle.serde_json.specs.Data.{Data}
 use Rattle.tq_node.specs.NodeJournal.{NodeEntry}
 use Rattle.tq_desk.specs.DeskJournal.{DeskEntry}

@@ -1,4 +1,4 @@
-use Rattle.std.proofs.Common.{[], ◌∷◌, ◌∙◌}
+use Rattle.std.proofs.Common.{[], ◌∙◌}
 use Rattle.json.specs.Print.{escape_byte}
 use Rattle.tq_json_write.specs.Lines.{answer_value}
 use Rattle.tq_json_write.proofs.Chained.{added}

@@ -1,4 +1,4 @@
-use Rattle.std.proofs.Common.{[], ◌∷◌, ◌∙◌}
+use Rattle.std.proofs.Common.{[], ◌∙◌}
 use Rattle.tq_shape.specs.Journal.{entry}
 use Rattle.tq_json_write.specs.Values.{entry_value}
 use Rattle.tq_json_write.proofs.Chained.{added}
