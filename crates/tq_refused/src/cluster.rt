@@ -186,7 +186,11 @@ pub(crate) fn round<H: Threads + Wait + Sync>(
 }
 
 /// Makes the round. Its callers are left to the end of the process.
-fn ended<H: Threads + Wait + Sync>(handle: &H, alloc: Global, cluster: &Cluster<OpenGate>) -> Ended {
+fn ended<H: Threads + Wait + Sync>(
+    handle: &H,
+    alloc: Global,
+    cluster: &Cluster<OpenGate>,
+) -> Ended {
     let Ran {
         callers,
         memory,

@@ -64,8 +64,8 @@ const DOWN: &[u8] =
 
 /// Lines over them, and their answers.
 const LINES: &[u8] = b"choose\nbegin\nwrite 1 a hello\ncommit 1\nup 1\n";
-const ANSWERS: &[u8] =
-    b"quorum 2 3 cost 2\nbegun 1\nwrite a version 1 at 2 3\ncommitted 1\nup 1\n";
+
+const ANSWERS: &[u8] = b"quorum 2 3 cost 2\nbegun 1\nwrite a version 1 at 2 3\ncommitted 1\nup 1\n";
 
 const REHEARSED_LINES: Row = Row {
     called: Called::RehearseLines,
