@@ -7,9 +7,11 @@ use crate::input::text_of;
 use crate::service::step_at;
 use crate::wrong::Wrong;
 use std::alloc::Global;
+use std::mem::forget;
 use std::sync::Wait;
+use std::thread::Threads;
 use tq_cells::OpenGate;
-use tq_cluster::{Caller, CloseFault, Cluster, Explained, LiveBoard, PullFault};
+use tq_cluster::{Caller, CloseFault, Cluster, Explained, LiveBoard, PullFault, Ran};
 use tq_core::Step;
 use tq_part::AskFault;
 use tq_shape::Part;
@@ -91,6 +93,115 @@ fn pulled(board: &LiveBoard, part: Part) -> usize
         Part::Server(server) => board.server(server).len(),
         Part::Desk => board.desk().len(),
         Part::View => board.view().len(),
+    }
+}
+
+/// Pulls all parts by one call, prints how many entries of each were pulled, and prints the board. Where memory is refused, it
+/// pulls them once more before it prints the board.
+pub(crate) fn pull_all<H: Wait>(
+    rt: &HostRuntime,
+    handle: &H,
+    journals: &Journals,
+    order: &[Part],
+) -> Result<(), Wrong> {
+    let alloc = rt.alloc();
+    let cluster = new_cluster(alloc, journals)?;
+    let mut caller = new_caller(alloc, &cluster)?;
+    ask_all(handle, alloc, &cluster, &mut caller, journals, order)?;
+    let mut board = new_board(alloc, journals)?;
+    let are_all = are_pulled(handle, alloc, &cluster, &mut caller, &mut board)?;
+    print_counts(rt, &board);
+    if !are_all {
+        let are_all = are_pulled(handle, alloc, &cluster, &mut caller, &mut board)?;
+        if !are_all {
+            return Err(Wrong::Memory);
+        }
+    }
+    let text = board_of(alloc, board.tables(), board.tables().view())?;
+    let _printed = print!(rt; "{text}");
+    Ok(())
+}
+
+/// Pulls all parts by one call; not all of them where memory is refused.
+fn are_pulled<H: Wait>(
+    handle: &H,
+    alloc: Global,
+    cluster: &Cluster<OpenGate>,
+    caller: &mut Caller,
+    board: &mut LiveBoard,
+) -> Result<bool, Wrong>
+    requires caller { caller.old.levels ≡ cluster.now.levels }
+    requires levels { board.old.levels ≡ cluster.now.levels }
+    requires limits { board.old.limits ≡ cluster.now.limits }
+    ensures caller { caller.new.levels ≡ caller.old.levels }
+    ensures levels { board.new.levels ≡ board.old.levels }
+    ensures limits { board.new.limits ≡ board.old.limits }
+{
+    match board.pull(handle, alloc, cluster, caller) {
+        Ok(()) => Ok(true),
+        Err(PullFault::Memory) => Ok(false),
+        Err(_) => Err(Wrong::Otherwise),
+    }
+}
+
+/// Prints how many entries were pulled of each server, of the desk and of the view.
+fn print_counts(rt: &HostRuntime, board: &LiveBoard) {
+    let _printed = print!(rt; "pulled");
+    let levels = board.levels();
+    let past = levels.servers() + 1;
+    for server in 1..past {
+        let count = board.server(server).len();
+        let _printed = print!(rt; " {count}");
+    }
+    let desk = board.desk().len();
+    let view = board.view().len();
+    let _printed = println!(rt; " {desk} {view}");
+}
+
+/// How a round ended: whether memory was refused, whether each caller was made, and how many came back.
+struct Ended {
+    memory: bool,
+    whole: bool,
+    callers: usize,
+}
+
+/// Makes one round of a run with no script and no worker, and prints how it ended.
+pub(crate) fn round<H: Threads + Wait + Sync>(
+    rt: &HostRuntime,
+    handle: &H,
+    journals: &Journals,
+    order: &[Part],
+) -> Result<(), Wrong> {
+    let alloc = rt.alloc();
+    let cluster = new_cluster(alloc, journals)?;
+    let mut caller = new_caller(alloc, &cluster)?;
+    ask_all(handle, alloc, &cluster, &mut caller, journals, order)?;
+    let Ended {
+        memory,
+        whole,
+        callers,
+    } = ended(handle, alloc, &cluster);
+    let _printed = println!(rt; "memory {memory} whole {whole} callers {callers}");
+    Ok(())
+}
+
+/// Makes the round. Its callers are left to the end of the process.
+fn ended<H: Threads + Wait + Sync>(
+    handle: &H,
+    alloc: Global,
+    cluster: &Cluster<OpenGate>,
+) -> Ended {
+    let Ran {
+        callers,
+        memory,
+        whole,
+    } = cluster.run_clients(handle, alloc, Vec::new(alloc), 0, 1);
+    let count = callers.len();
+    forget(callers);
+    Ended {
+        memory,
+        whole,
+        callers: count,
     }
 }
 

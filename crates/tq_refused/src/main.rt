@@ -14,6 +14,7 @@ use crate::wrong::Wrong;
 use std::alloc::Global;
 use std::process::ExitCode;
 use std::sync::Wait;
+use std::thread::Threads;
 use tq_merge::{Fault, Order, explain};
 use tq_tables::Journals;
 
@@ -28,7 +29,7 @@ fn main(rt: HostRuntime) -> ExitCode {
 }
 
 /// Runs the scenario that the word names; where it asks a cluster, by the handle.
-fn run<H: Wait>(rt: &HostRuntime, handle: &H) -> Result<(), Wrong> {
+fn run<H: Threads + Wait + Sync>(rt: &HostRuntime, handle: &H) -> Result<(), Wrong> {
     let name = input::word(rt)?;
     if name.as_str() == "full" {
         return full::run(rt);
@@ -39,6 +40,8 @@ fn run<H: Wait>(rt: &HostRuntime, handle: &H) -> Result<(), Wrong> {
         "steps" => service::run(rt, &journals, order.as_slice()),
         "calls" => board::run(rt, &journals, order.as_slice()),
         "pulls" => cluster::pull(rt, handle, &journals, order.as_slice()),
+        "pull" => cluster::pull_all(rt, handle, &journals, order.as_slice()),
+        "round" => cluster::round(rt, handle, &journals, order.as_slice()),
         "close" => cluster::close(rt, handle, &journals, order.as_slice()),
         _ => Err(Wrong::Input),
     }

@@ -1,5 +1,5 @@
 -- What a rehearsal has written where no line is read.
-use Rattle.std.proofs.Common.{◌≡◌, ℕ, Bool, List, [], Option, Some, None, Result, Err, refl, subst, inl}
+use Rattle.std.proofs.Common.{◌≡◌, ◌<◌, ℕ, Bool, List, [], Option, Some, None, Result, Err, refl, subst, inl}
 use Rattle.std.specs.Result.{IsErrAnd}
 use Rattle.tq_devices.specs.declared.fault.RunFault.{RunFault}
 use Rattle.tq_devices.specs.declared.fault.RunFault.TheVariants.{Memory, Read, Write, TooLong}
@@ -24,7 +24,7 @@ unread bytes given (Some journals) is same none = absurd (none journals refl)
 -- a file that is refused, and what tells of it
 pub refused_file : (bytes given : List ℕ) (opened : Opened) (finding : AuditFinding) → IsOpened given opened → opened ≡ Refused finding → given ≡ bytes → IsRefusedFile bytes (verdict_line finding) (status_of finding)
 refused_file bytes given opened finding opens refused same =
-    let is : IsVerdict given finding × (status_of finding ≡ 0 → ⊥) = subst (IsOpened given) refused opens in
+    let is : IsVerdict given finding × (0 < status_of finding) = subst (IsOpened given) refused opens in
     record {
       audited = record { verdict = finding; found = subst (λ (b : List ℕ). IsVerdict b finding) same is.0; line_is = refl; status_is = refl };
       refused = is.1;

@@ -1,5 +1,5 @@
 -- What a rehearsal has written for the journal file and for the lines that it has read.
-use Rattle.std.specs.Prelude.{◌≡◌, ◌⊎◌, ◌≤◌, ℕ, Bool, List, [], Result, IfOk, length}
+use Rattle.std.specs.Prelude.{◌≡◌, ◌⊎◌, ◌≤◌, ◌<◌, ℕ, Bool, List, [], Result, IfOk, length}
 use Rattle.tq_devices.specs.declared.fault.RunFault.{RunFault}
 use Rattle.tq_devices.specs.Faults.{IsRunCount}
 use Rattle.tq_shape.specs.declared.part.Part.{Part}
@@ -24,12 +24,12 @@ pub record IsExplainedFile (bytes : List ℕ) (journals : JournalsView) : Type 0
 -- what an audit tells of the bytes, which finds no order
 pub record IsRefusedFile (bytes line : List ℕ) (status : ℕ) : Type 0 where
   pub audited : IsAudited bytes line status
-  pub refused : status ≡ 0 → ⊥
+  pub refused : 0 < status
 
 -- what is made of a journal file
 abbrev pub IsOpened : List ℕ → Opened → Type 0
 IsOpened bytes (Ready service) = IsExplainedFile bytes service
-IsOpened bytes (Refused finding) = IsVerdict bytes finding × (status_of finding ≡ 0 → ⊥)
+IsOpened bytes (Refused finding) = IsVerdict bytes finding × (0 < status_of finding)
 
 -- no line is read, and what is written is what tells of the file
 pub record IsTurnedAway (result : Result ℕ RunFault) (file lines text : List ℕ) : Type 0 where

@@ -6,15 +6,18 @@ use std::sync::Wait;
 use std::thread::Threads;
 use tq_devices::{MemorySink, MemorySource, RunFault, Sink, Source};
 use tq_shape::Levels;
-use tq_shell::{audit, run, threads, upgrade};
+use tq_shell::{audit, rehearse, run, threads, upgrade};
 
-/// What is called over a source and a sink, in a tree of two levels.
+/// What is called over a source and a sink, in a tree of two levels. A rehearsal has two sources: the one that may fail has its
+/// lines or its journals.
 #[derive(Clone, Copy)]
 enum Called {
     Run,
     Audit,
     Upgrade,
     Threads,
+    RehearseLines,
+    RehearseJournals,
 }
 
 /// A call, what it is given, and what it writes.
@@ -55,6 +58,27 @@ const UPGRADE: Row = Row {
 const JOURNALS: &[u8] =
     b"{\"desk\":[],\"format\":2,\"levels\":2,\"limits\":{\"entries\":1000000,\"files\":1000,\"ops\":64},\"servers\":[[],[],[]],\"view\":[{\"ask\":{\"is\":\"choose\",\"purpose\":\"read\"},\"reply\":{\"cost\":2,\"is\":\"chosen\",\"servers\":[1,2]}}]}\n";
 
+/// Journals whose server 1 is down.
+const DOWN: &[u8] =
+    b"{\"desk\":[],\"format\":2,\"levels\":2,\"limits\":{\"entries\":1000000,\"files\":1000,\"ops\":64},\"servers\":[[{\"ask\":{\"is\":\"crash\"},\"reply\":{\"is\":\"crashed\"}}],[],[]],\"view\":[{\"ask\":{\"is\":\"mark\",\"server\":1,\"up\":false},\"reply\":{\"is\":\"marked\"}}]}\n";
+
+/// Lines over them, and their answers.
+const LINES: &[u8] = b"choose\nbegin\nwrite 1 a hello\ncommit 1\nup 1\n";
+
+const ANSWERS: &[u8] = b"quorum 2 3 cost 2\nbegun 1\nwrite a version 1 at 2 3\ncommitted 1\nup 1\n";
+
+const REHEARSED_LINES: Row = Row {
+    called: Called::RehearseLines,
+    given: LINES,
+    written: ANSWERS,
+};
+
+const REHEARSED_JOURNALS: Row = Row {
+    called: Called::RehearseJournals,
+    given: DOWN,
+    written: ANSWERS,
+};
+
 /// More calls of a device than any of these makes.
 const MOST_CALLS: u64 = 400;
 
@@ -75,7 +99,35 @@ fn call<H: Threads + Wait + Sync>(
         Called::Audit => done(audit(alloc, source, sink)),
         Called::Upgrade => done(upgrade(alloc, source, sink)),
         Called::Threads => done(threads(rt, alloc, levels, 0, 0, source, sink)),
+        Called::RehearseLines => rehearse_lines(alloc, source, sink),
+        Called::RehearseJournals => rehearse_journals(alloc, source, sink),
     }
+}
+
+/// Rehearses the lines over journals that are read whole.
+fn rehearse_lines(
+    alloc: Global,
+    lines: &mut MemorySource<'_>,
+    sink: &mut MemorySink,
+) -> Result<(), RunFault>
+    requires source { lines.old.failed ≡ 0 }
+    requires sink { sink.old.failed ≡ 0 }
+{
+    let mut journals = MemorySource::new(DOWN, 1000, None);
+    done(rehearse(alloc, &mut journals, lines, sink))
+}
+
+/// Rehearses lines that are read whole over the journals.
+fn rehearse_journals(
+    alloc: Global,
+    journals: &mut MemorySource<'_>,
+    sink: &mut MemorySink,
+) -> Result<(), RunFault>
+    requires source { journals.old.failed ≡ 0 }
+    requires sink { sink.old.failed ≡ 0 }
+{
+    let mut lines = MemorySource::new(LINES, 1000, None);
+    done(rehearse(alloc, journals, &mut lines, sink))
 }
 
 /// What was done, without its status.
@@ -173,6 +225,12 @@ fn each_call_of_a_device_fails_in_an_upgrade(rt: HostRuntime) {
 #[test]
 fn each_call_of_a_device_fails_in_threads(rt: HostRuntime) {
     assert!(rt; devices_fail(&rt, rt.alloc(), &THREADS));
+}
+
+#[test]
+fn each_call_of_a_device_fails_in_a_rehearsal(rt: HostRuntime) {
+    assert!(rt; devices_fail(&rt, rt.alloc(), &REHEARSED_LINES));
+    assert!(rt; devices_fail(&rt, rt.alloc(), &REHEARSED_JOURNALS));
 }
 
 /// The first run ends by the read that fails, with what had come of a line by then. The second one goes on behind the
