@@ -180,13 +180,13 @@ pub(crate) fn round<H: Threads + Wait + Sync>(
         memory,
         whole,
         callers,
-    } = ended(handle, alloc, &cluster);
+    } = end_of_round(handle, alloc, &cluster);
     let _printed = println!(rt; "memory {memory} whole {whole} callers {callers}");
     Ok(())
 }
 
 /// Makes the round. Its callers are left to the end of the process.
-fn ended<H: Threads + Wait + Sync>(
+fn end_of_round<H: Threads + Wait + Sync>(
     handle: &H,
     alloc: Global,
     cluster: &Cluster<OpenGate>,
