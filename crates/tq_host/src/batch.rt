@@ -3,6 +3,7 @@
 use crate::wire::Wire;
 use std::alloc::Global;
 use std::marker::Model;
+use tq_json::Scratch;
 use tq_part::Journaled;
 use tq_shape::Memory;
 
@@ -78,14 +79,19 @@ impl<P: Wire> Batch<P> {
     }
 
     /// Answers a line. Answers an error only where memory is refused even for the answer that it is; then all is as it was.
-    pub(crate) fn answer(&mut self, alloc: Global, line: &[u8]) -> Result<(), Memory>
+    pub(crate) fn answer(
+        &mut self,
+        alloc: Global,
+        scratch: &mut Scratch,
+        line: &[u8],
+    ) -> Result<(), Memory>
         ensures told { OnOk result ((answer : Told P.Ask P.Reply)
             × IsTold P.reply P.after P.reads_ask P.reads P.entry_line
             self.old.standing line.now answer
             × (self.new ≡ with_told P.after P.entry_line P.told_line self.old answer)) }
         ensures err { OnErr result (self.new ≡ self.old) }
     {
-        let Ok(read) = P::ask_of_line(alloc, line) else {
+        let Ok(read) = P::ask_of_line(alloc, scratch, line) else {
             self.tell(MEMORY)?;
             return Ok(());
         };

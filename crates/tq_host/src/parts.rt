@@ -30,18 +30,21 @@ impl Wire for Node {
 
     ghost told_line = { answer_line node_reply_value };
 
-    fn ask_of_line(alloc: Global, line: &[u8]) -> Result<Option<NodeAsk>, Memory> {
-        let mut scratch = Scratch::new(alloc);
-        value_from_json(alloc, Levels::default(), line, &mut scratch)
+    fn ask_of_line(
+        alloc: Global,
+        scratch: &mut Scratch,
+        line: &[u8],
+    ) -> Result<Option<NodeAsk>, Memory> {
+        value_from_json(alloc, Levels::default(), line, scratch)
     }
 
     fn entry_of_line(
         &self,
         alloc: Global,
+        scratch: &mut Scratch,
         line: &[u8],
     ) -> Result<Option<Entry<NodeAsk, NodeReply>>, Memory> {
-        let mut scratch = Scratch::new(alloc);
-        value_from_json(alloc, Levels::default(), line, &mut scratch)
+        value_from_json(alloc, Levels::default(), line, scratch)
     }
 
     fn line_of_entry(
@@ -77,18 +80,21 @@ impl Wire for Desk {
 
     ghost told_line = { answer_line desk_reply_value };
 
-    fn ask_of_line(alloc: Global, line: &[u8]) -> Result<Option<DeskAsk>, Memory> {
-        let mut scratch = Scratch::new(alloc);
-        value_from_json(alloc, Levels::default(), line, &mut scratch)
+    fn ask_of_line(
+        alloc: Global,
+        scratch: &mut Scratch,
+        line: &[u8],
+    ) -> Result<Option<DeskAsk>, Memory> {
+        value_from_json(alloc, Levels::default(), line, scratch)
     }
 
     fn entry_of_line(
         &self,
         alloc: Global,
+        scratch: &mut Scratch,
         line: &[u8],
     ) -> Result<Option<Entry<DeskAsk, DeskReply>>, Memory> {
-        let mut scratch = Scratch::new(alloc);
-        value_from_json(alloc, Levels::default(), line, &mut scratch)
+        value_from_json(alloc, Levels::default(), line, scratch)
     }
 
     fn line_of_entry(
@@ -124,18 +130,21 @@ impl Wire for View {
 
     ghost told_line = { answer_line view_reply_value };
 
-    fn ask_of_line(alloc: Global, line: &[u8]) -> Result<Option<ViewAsk>, Memory> {
-        let mut scratch = Scratch::new(alloc);
-        value_from_json(alloc, Levels::default(), line, &mut scratch)
+    fn ask_of_line(
+        alloc: Global,
+        scratch: &mut Scratch,
+        line: &[u8],
+    ) -> Result<Option<ViewAsk>, Memory> {
+        value_from_json(alloc, Levels::default(), line, scratch)
     }
 
     fn entry_of_line(
         &self,
         alloc: Global,
+        scratch: &mut Scratch,
         line: &[u8],
     ) -> Result<Option<Entry<ViewAsk, ViewReply>>, Memory> {
-        let mut scratch = Scratch::new(alloc);
-        value_from_json(alloc, self.tree().levels(), line, &mut scratch)
+        value_from_json(alloc, self.tree().levels(), line, scratch)
     }
 
     fn line_of_entry(

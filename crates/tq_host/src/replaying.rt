@@ -9,6 +9,7 @@ use crate::fault::ReplayFault;
 use crate::wire::Wire;
 use memchr::{memchr, memrchr};
 use std::alloc::Global;
+use tq_json::Scratch;
 use tq_part::Journaled;
 use tq_shape::Entry;
 
@@ -43,9 +44,10 @@ pub fn replay<P: Wire>(
         → IfOk result (λ found. found ≡ now) }
 {
     let mut now = Journaled::new(alloc, part, limit);
+    let mut scratch = Scratch::new(alloc);
     let mut left = text;
     while let Some(place) = memchr(b'\n', left) {
-        if let Err(fault) = enter_line(alloc, &mut now, &left[..place + 1]) {
+        if let Err(fault) = enter_line(alloc, &mut scratch, &mut now, &left[..place + 1]) {
             return Err(fault);
         }
         left = &left[place + 1..];
@@ -56,6 +58,7 @@ pub fn replay<P: Wire>(
 /// The part behind one line more.
 fn enter_line<P: Wire>(
     alloc: Global,
+    scratch: &mut Scratch,
     part: &mut Journaled<P>,
     line: &[u8],
 ) -> Result<(), ReplayFault>
@@ -67,7 +70,7 @@ fn enter_line<P: Wire>(
     if is_full {
         return Err(ReplayFault::Wrong { number });
     }
-    let Some(entry) = part.part().entry_of_line(alloc, line)? else {
+    let Some(entry) = part.part().entry_of_line(alloc, scratch, line)? else {
         return Err(ReplayFault::Unreadable { number });
     };
     let Entry { ask, reply } = entry;

@@ -14,6 +14,7 @@ use crate::wire::Wire;
 use memchr::memchr;
 use std::alloc::Global;
 use tq_devices::{Sink, Source, write_out};
+use tq_json::Scratch;
 use tq_part::Journaled;
 use tq_shape::Memory;
 
@@ -47,13 +48,15 @@ pub fn serve<P: Wire, R: Source, W: Sink, L: Log>(
 {
     let mut batch = Batch::new(alloc, part);
     let mut line = Vec::new(alloc);
+    let mut scratch = Scratch::new(alloc);
     let mut buffer = [0; PIECE];
     let mut at = 0;
     let mut count = 0;
     for _turn in 0..u64::MAX {
         let unread = &buffer[at..count];
         if let Some(place) = memchr(b'\n', unread) {
-            let Ok(()) = end_line(alloc, &mut batch, &mut line, &unread[..place + 1]) else {
+            let bytes = &unread[..place + 1];
+            let Ok(()) = end_line(alloc, &mut scratch, &mut batch, &mut line, bytes) else {
                 return Err(HostFault::Memory);
             };
             at += place + 1;
@@ -83,6 +86,7 @@ pub fn serve<P: Wire, R: Source, W: Sink, L: Log>(
 /// Answers the line that ends with these bytes. Where memory is refused, what was answered before is as it was.
 fn end_line<P: Wire>(
     alloc: Global,
+    scratch: &mut Scratch,
     batch: &mut Batch<P>,
     line: &mut Vec<u8>,
     bytes: &[u8],
@@ -94,7 +98,7 @@ fn end_line<P: Wire>(
     ensures line { OnOk result (line.new.items ≡ []) }
 {
     line.extend_from_slice(bytes)?;
-    batch.answer(alloc, line.as_slice())?;
+    batch.answer(alloc, scratch, line.as_slice())?;
     line.clear();
     Ok(())
 }

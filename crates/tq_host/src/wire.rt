@@ -1,6 +1,7 @@
 //! Parts with the lines of their asks, entries and replies.
 
 use std::alloc::Global;
+use tq_json::Scratch;
 use tq_part::Answers;
 use tq_shape::{Entry, Memory};
 
@@ -25,13 +26,18 @@ pub trait Wire: Answers {
     ghost told_line: { ℕ → Self.Reply → List ℕ };
 
     /// The ask that the line is: none where it is no ask of this part. Answers an error only where memory is refused.
-    fn ask_of_line(alloc: Global, line: &[u8]) -> Result<Option<Self::Ask>, Memory>
+    fn ask_of_line(
+        alloc: Global,
+        scratch: &mut Scratch,
+        line: &[u8],
+    ) -> Result<Option<Self::Ask>, Memory>
         ensures { IfOk result (reads_ask line.now) };
 
     /// The entry that the line is.
     fn entry_of_line(
         &self,
         alloc: Global,
+        scratch: &mut Scratch,
         line: &[u8],
     ) -> Result<Option<Entry<Self::Ask, Self::Reply>>, Memory>
         ensures { IfOk result (reads self.now line.now) };
