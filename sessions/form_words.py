@@ -58,9 +58,9 @@ def words_of(texts):
 
 
 def differing():
-    """The words and codes that stand in the table or in docs/FORMAT.md alone."""
+    """The words and codes that stand in the table or in docs/FORMAT.md alone; what hosts answer is no word of journal files."""
     with open(os.path.join(ROOT, "docs/FORMAT.md"), encoding="utf-8") as it:
-        form = it.read()
+        form = re.sub(r"(?s)\n## Lines of hosts\n.*?(?=\n## )", "", it.read())
     objects = re.findall(r"`(\{[^`]*\})`", form) + re.findall(r"(?s)```json\n(.*?)```", form)
     codes = {code for row in re.findall(r"(?m)^The codes of .*", form) for code in re.findall(r"[:,] (\d\d) ", row)}
     # The two words for reading and writing are both kinds and purposes, and FORMAT.md has some words in its text alone.
