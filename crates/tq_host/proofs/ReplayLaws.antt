@@ -1,9 +1,8 @@
 -- Lines lead to one part alone.
-use Rattle.std.proofs.Common.{◌≡◌, ℕ, ◌+◌, ◌≤◌, List, [], ◌∷◌, ◌++◌, Option, Some, length, take, drop, refl, sym, ap, subst, ◌∙◌, append_assoc, length-append, arith}
+use Rattle.std.proofs.Common.{◌≡◌, ℕ, List, [], ◌∷◌, ◌++◌, Option, Some, take, drop, refl, sym, ap, subst, ◌∙◌, append_assoc}
 use Rattle.std.proofs.lemmas.List.{take-append-drop}
 use Rattle.std.specs.Option.{unwrap_or}
 use Rattle.tq_shape.specs.declared.entry.Entry.{Entry}
-use Rattle.tq_shape.specs.Journal.{entry}
 use Rattle.tq_part.specs.Agrees.{Standing, next_number, state_after_entry}
 use Rattle.tq_host.specs.Lines.{HasNoFeed, IsLine, AreLines, text_of, BeginsWith}
 use Rattle.tq_host.specs.Replay.{Enters, AreEntered, IsLogOf, StopsAt}

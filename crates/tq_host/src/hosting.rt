@@ -20,12 +20,13 @@ use tq_shape::Memory;
 /// The part that the lines of a log lead to answers the lines of the source, with status 0 at its end. Where they lead to none,
 /// a line tells why, `wrong entry N` with status 3 or `unreadable entry N` with status 4, and no ask is read.
 ///
-/// The text is what the log keeps, all of it synced, but for a last line that no line feed ends, which was told to nobody.
+/// The text is what the log keeps, all of it synced, but for a last line that no line feed ends, which was told to nobody. It is
+/// let go before the first ask is read.
 pub fn host<P: Wire, R: Source, W: Sink, L: Log>(
     alloc: Global,
     part: P,
     limit: u32,
-    text: &[u8],
+    text: Vec<u8>,
     log: &mut L,
     reader: &mut R,
     writer: &mut W,
@@ -37,13 +38,14 @@ pub fn host<P: Wire, R: Source, W: Sink, L: Log>(
     requires logs { L.failed log.old < 2 ^ 64 - 1 }
     ensures hosted { (bytes : List ℕ) × Appends (R.given reader.old) (R.given reader.new) bytes
         × IsHosted P.reply P.after P.reads_ask P.reads P.entry_line P.told_line result
-        (standing_part part [] limit) text.now (L.kept log.old) (L.kept log.new) (L.synced log.new)
+        (standing_part part [] limit) text.items (L.kept log.old) (L.kept log.new) (L.synced log.new)
         (W.taken writer.old) (W.taken writer.new) bytes }
     ensures counts { IsHostCount result (R.failed reader.old) (R.failed reader.new)
         (W.failed writer.old) (W.failed writer.new) (L.failed log.old) (L.failed log.new) }
 {
-    match replay(alloc, part, limit, text) {
+    match replay(alloc, part, limit, text.as_slice()) {
         Ok(start) => {
+            drop(text);
             if let Err(fault) = serve(alloc, start, log, reader, writer) {
                 return Err(fault);
             }

@@ -129,12 +129,11 @@ fn host_on<P: Wire>(rt: &HostRuntime, part: P, limit: u32, path: &str) -> ExitCo
     let OpenedLog { mut log, text } = opened;
     let mut reader = StdSource::new(rt.reader());
     let mut writer = StdSink::new(io::writer(rt));
-    let lines = text.as_slice();
     match host(
         rt.alloc(),
         part,
         limit,
-        lines,
+        text,
         &mut log,
         &mut reader,
         &mut writer,

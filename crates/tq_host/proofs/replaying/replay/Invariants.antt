@@ -1,4 +1,4 @@
-use Rattle.std.proofs.Common.{◌≡◌, ◌≤◌, [], length}
+use Rattle.std.proofs.Common.{◌≡◌, [], length}
 use Rattle.tq_part.specs.Agrees.{standing_part}
 use Rattle.tq_host.proofs.ReplayLaws.{IsReplaying}
 use Rattle.tq_host.proofs.replaying.replay.Given as goal
