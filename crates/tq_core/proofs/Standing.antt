@@ -2,6 +2,7 @@
 use Rattle.std.proofs.Common.{◌≡◌, ◌≤◌, ◌<◌, ◌+◌, ◌-◌, ◌^◌, ℕ, suc, Bool, true, false, cond, List, [], ◌∷◌, ◌++◌, length, map, set, get_or, replicate, Option, Some, None, refl, sym, ap, subst, ◌∙◌, arith}
 use Rattle.std.specs.Prelude.{nat_lt, slice_get, Result, Ok, Err, IfOk, OnOk, OnErr}
 use Rattle.std.specs.Option.{option_map, unwrap_or}
+use Rattle.std.specs.Result.{IsErrAnd}
 use Rattle.std.proofs.lemmas.List.{get_or-map, length-map, length-set, length-replicate, length_push, map-set, set-get_or}
 use Rattle.std.proofs.lemmas.Option.{get_or_from_slice_get, slice_get-get_or, slice_get_within}
 use Rattle.std.proofs.lemmas.List.Elements.{All-set, All-replicate, All-push}
@@ -13,15 +14,16 @@ use Rattle.tq_shape.specs.Journal.{entry}
 use Rattle.tq_shape.specs.declared.entry.Entry.{Entry}
 use Rattle.tq_shape.specs.declared.part.Part.TheVariants as parts
 use Rattle.tq_part.specs.declared.fault.AskFault.{AskFault}
+use Rattle.tq_part.specs.declared.fault.AskFault.TheVariants as ask_faults
 use Rattle.tq_part.specs.declared.journaled.Answered.{Answered}
 use Rattle.tq_asks.specs.declared.ask.NodeAsk.{NodeAsk}
 use Rattle.tq_asks.specs.declared.ask.NodeReply.{NodeReply}
 use Rattle.tq_node.specs.Node.{NodeView}
 use Rattle.tq_node.specs.NodeJournal.{NodeEntry}
+use Rattle.tq_node.specs.Records.{node_reply}
 use Rattle.tq_desk.specs.declared.ask.DeskAsk.{DeskAsk}
 use Rattle.tq_desk.specs.declared.ask.DeskReply.{DeskReply}
 use Rattle.tq_desk.specs.DeskJournal.{DeskEntry}
-use Rattle.tq_desk.specs.DeskStep.{desk_reply}
 use Rattle.tq_live.specs.Live.{Live, best}
 use Rattle.tq_live.specs.View.{view_reply, is_server, are_costs, choice_reply}
 use Rattle.tq_live.specs.declared.purpose.Purpose.{Purpose}
@@ -30,7 +32,8 @@ use Rattle.tq_live.specs.declared.view.ViewAsk.TheVariants.{SetCost, Mark, Choos
 use Rattle.tq_live.specs.declared.view.ViewReply.{ViewReply}
 use Rattle.tq_live.specs.declared.view.ViewReply.TheVariants.{CostSet, Marked, Refused}
 use Rattle.tq_live.specs.declared.view.ViewRefusal.TheVariants.{NoSuchServer, BadCost}
-use Rattle.tq_tables.specs.Asked.{MayAskNode, node_in}
+use Rattle.tq_tables.specs.Asked.{FollowsDesk, FollowsNode, FollowsView, MayAskNode, both, desk_replies, node_in, node_replies, view_replies}
+use Rattle.tq_tables.specs.declared.replies.Replies.{Replies}
 use Rattle.tq_tables.specs.Journals.{JournalsView, AreJournals, IsOfTree, ViewEntry, with_desk, with_view}
 use Rattle.tq_tables.specs.NextOfServer.{entries_of, with_node}
 use Rattle.tq_tables.specs.Parts.{AreLegal, node_after_all}
@@ -49,9 +52,9 @@ use Rattle.tq_world.specs.Steps.{refuse_entry, refuse_at, refusal, answer, serve
 use Rattle.tq_world.proofs.Legal.{all_offered, legal_run}
 use Rattle.tq_world.proofs.Rooms.{entry_room, item_above, node_room}
 use Rattle.tq_world.proofs.Runs.{told_answer, told_refusal, world_grown}
-use Rattle.tq_core.specs.Asked.{answer_of, refusal_of, told_by, told_of}
+use Rattle.tq_core.specs.Asked.{answer_of, refusal_of, told_by}
 use Rattle.tq_tables.specs.Tabled.{journals_in}
-use Rattle.tq_core.specs.Service.{IsEntered, IsService, reply_of}
+use Rattle.tq_core.specs.Service.{IsService}
 
 -- ---- whether an ask is taken
 
@@ -63,12 +66,11 @@ module _ (world : JournalsView) (step : Step) (found : Option AskFault) (is : op
   pub not-refused : found ≡ None → refusal world step ≡ None
   not-refused none = sym is ∙ ap (option_map refusal_of) none
 
--- an ask of a service: it stands afterwards, and the ask was told what a step is to be told
-pub record Asked {R : Type 0} (into : R → Reply) (tables : TablesView) (old new : JournalsView) (step : Step) (result : Result (Answered R) AskFault) : Type 0 where
+-- an ask of a service that is taken: it stands afterwards, and the ask was told what the step is to be told
+pub record Asked {R : Type 0} (into : R → Reply) (tables : TablesView) (old new : JournalsView) (step : Step) (answered : Answered R) : Type 0 where
   pub stands : IsService tables new
-  pub told : IsTold old step (told_by into result)
-  pub after : OnOk result (new ≡ world_after old step)
-  pub err : OnErr result (new ≡ old)
+  pub told : IsTold old step (Ok (answer_of into answered))
+  pub after : new ≡ world_after old step
 
 ran-push : (world : JournalsView) (step : Step) → refusal world step ≡ None → (done : List Step) → world ≡ run world.levels world.limits done
     → world_with_step world step ≡ run world.levels world.limits (done ++ step ∷ [])
@@ -77,46 +79,35 @@ ran-push world step none done ran =
     ∙ ap (λ (w : JournalsView). world_after w step) ran
     ∙ sym (fold-append world_after (empty_world world.levels world.limits) done (step ∷ []))
 
--- the journals beside the tables that are theirs
-same_levels : (tables : TablesView) (world : JournalsView) → IsService tables world → journals_in tables world.limits world.servers world.desk world.view ≡ world
-same_levels tables world service = λ i. record { levels = (service.stand i).levels; limits = world.limits; servers = world.servers; desk = world.desk; view = world.view }
-
 -- ---- an ask that is entered
 
+-- the new tables follow the old ones' journals with this entry more, whatever is replied
+abbrev Follows : {A R : Type 0} → (JournalsView → Entry A R → JournalsView) → TablesView → TablesView → A → Type 0
+Follows {A} {R} with_entry old new ask =
+    (journals : JournalsView) (reply : R) → AreLegal (with_entry journals (entry ask reply)) → old ≡ tables_of journals → new ≡ tables_of (with_entry journals (entry ask reply))
+
 module _ {A R : Type 0} (into : R → Reply) (with_entry : JournalsView → Entry A R → JournalsView) (tables new : TablesView) (world after : JournalsView) (service : IsService tables world)
-    (step : Step) (ask : A) (reply : R) (journal next : List (Entry A R)) where
-  entered_here : {M : Type 0} (result : Result (Answered R) M) → refusal world step ≡ None → IsEntered with_entry tables new journal next ask reply result
+    (step : Step) (ask : A) (reply : R) (answered : Answered R) where
+  entered_here : refusal world step ≡ None → Follows with_entry tables new ask
       → with_entry world (entry ask reply) ≡ world_with_step world step → AreJournals (world_with_step world step) → IsOfRun (world_with_step world step)
-      → (let told : Answer = record { number = length journal + 1; reply = into reply } in told ≡ answer world step)
-      → (new ≡ tables_of (world_with_step world step) → next ≡ journal ++ entry ask reply ∷ [] → after ≡ world_with_step world step)
-      → (new ≡ tables → next ≡ journal → after ≡ world)
-      → Asked into new world after step (told_of result)
-  entered_here (Ok told) none entered grows journals ran answers moved stays =
+      → answer_of into answered ≡ answer world step
+      → (new ≡ tables_of (world_with_step world step) → after ≡ world_with_step world step)
+      → Asked into new world after step answered
+  entered_here none follows grows journals ran answers moved =
       let legal = subst (λ (w : JournalsView). AreLegal w) (sym grows) (legal_run (world_with_step world step) ran) in
-      let stand = entered.asked world reply legal service.stand ∙ ap tables_of grows in
-      let goes = moved stand entered.entered in
+      let stand = follows world reply legal service.stand ∙ ap tables_of grows in
+      let goes = moved stand in
       record {
         stands = subst (λ (w : JournalsView). IsService new w) (sym goes) (record { journals = journals; ran = ran; stand = stand });
-        told = told_answer world step (answer_of into told) none (ap (λ (t : Answered R). answer_of into t) entered.told ∙ answers);
+        told = told_answer world step (answer_of into answered) none answers;
         after = goes ∙ sym (world_grown world step none);
-        err = tt;
-      }
-  entered_here (Err refused) none entered grows journals ran answers moved stays =
-      let all = stays entered.err.0 entered.err.1 in
-      record {
-        stands = subst (λ (t : TablesView). IsService t after) (sym entered.err.0) (subst (λ (w : JournalsView). IsService tables w) (sym all) service);
-        told = none;
-        after = tt;
-        err = all;
       }
 
--- the same of what was given, and of what is told in the end
-asked_at : {R M : Type 0} (into : R → Reply) (tables : TablesView) (world given new : JournalsView) (step : Step) → world ≡ given → (result : Result (Answered R) M) (out : Result (Answered R) AskFault) → out ≡ told_of result
-    → (refusal world step ≡ None → Asked into tables world new step (told_of result)) → refusal given step ≡ None → Asked into tables given new step out
-asked_at {R} into tables world given new step here result out told asked none =
-    subst (λ (o : Result (Answered R) AskFault). Asked into tables given new step o) (sym told)
-    (subst (λ (w : JournalsView). Asked into tables w new step (told_of result)) here
-    (asked (ap (λ (w : JournalsView). refusal w step) here ∙ none)))
+-- the same of what was given
+asked_at : {R : Type 0} (into : R → Reply) (tables : TablesView) (world given new : JournalsView) (step : Step) (answered : Answered R) → world ≡ given
+    → (refusal world step ≡ None → Asked into tables world new step answered) → refusal given step ≡ None → Asked into tables given new step answered
+asked_at into tables world given new step answered here asked none =
+    subst (λ (w : JournalsView). Asked into tables w new step answered) here (asked (ap (λ (w : JournalsView). refusal w step) here ∙ none))
 
 -- ---- the desk
 
@@ -132,20 +123,24 @@ module _ (tables new : TablesView) (world given : JournalsView) (here : world �
         of_tree = service.journals.of_tree;
       }
 
-  pub desk_asked : {M : Type 0} (result : Result (Answered DeskReply) M) (out : Result (Answered DeskReply) AskFault) → out ≡ told_of result → refusal given (steps.Desk ask) ≡ None
-      → IsEntered with_desk tables new world.desk after ask (desk_reply tables.desk ask) result
-      → Asked replies.Desk new given (journals_in new world.limits world.servers after world.view) (steps.Desk ask) out
-  desk_asked result out told none entered =
-      let now = journals_in new world.limits world.servers after world.view in
-      let reply = (desk_entry world ask).reply in
-      let next : length world.desk + 1 ≡ suc (length world.desk) = omega arith in
-      asked_at replies.Desk new world given now (steps.Desk ask) here result out told
-      (λ none. entered_here replies.Desk with_desk tables new world now service (steps.Desk ask) ask reply world.desk after result none
-      (subst (λ (r : DeskReply). IsEntered with_desk tables new world.desk after ask r result) (ap (λ (t : TablesView). desk_reply t.desk ask) service.stand) entered)
+  pub desk_asked : refusal given (steps.Desk ask) ≡ None → FollowsDesk tables new ask → (number : ℕ) → number ≡ length world.desk + 1
+      → (made : Replies DeskReply) → made ≡ desk_replies tables.desk ask → after ≡ world.desk ++ entry ask made.entered ∷ []
+      → Asked replies.Desk new given (journals_in new world.limits world.servers after world.view) (steps.Desk ask) (record { number = number; reply = made.told })
+  desk_asked none follows number counted made are more =
+      let answered : Answered DeskReply = record { number = number; reply = made.told } in
+      let next : number ≡ suc (length world.desk) = omega (arith, counted) in
+      let said = are ∙ ap (λ (t : TablesView). desk_replies t.desk ask) service.stand in
+      asked_at replies.Desk new world given (journals_in new world.limits world.servers after world.view) (steps.Desk ask) answered here
+      (λ none. entered_here replies.Desk with_desk tables new world (journals_in new world.limits world.servers after world.view) service (steps.Desk ask) ask (desk_entry world ask).reply answered none follows
       refl (desk_journals none) (service.ran.0 ++ steps.Desk ask ∷ [], ran-push world (steps.Desk ask) none service.ran.0 service.ran.1)
-      (λ i. record { number = next i; reply = replies.Desk reply })
-      (λ stand more i. record { levels = (stand i).levels; limits = world.limits; servers = world.servers; desk = more i; view = world.view })
-      (λ same stays. (λ i. journals_in (same i) world.limits world.servers (stays i) world.view) ∙ same_levels tables world service)) none
+      (λ i. record { number = next i; reply = replies.Desk (said i).told })
+      (λ stand i. record {
+        levels = (stand i).levels;
+        limits = world.limits;
+        servers = world.servers;
+        desk = (more ∙ ap (λ (r : Replies DeskReply). world.desk ++ entry ask r.entered ∷ []) said) i;
+        view = world.view;
+      })) none
 
 -- ---- the view
 
@@ -181,20 +176,24 @@ module _ (tables new : TablesView) (world given : JournalsView) (here : world �
         of_tree = All-push P world.view e service.journals.of_tree (reply_of_tree (view_at world.levels world.view) ask);
       }
 
-  pub view_asked : {M : Type 0} (result : Result (Answered ViewReply) M) (out : Result (Answered ViewReply) AskFault) → out ≡ told_of result → refusal given (steps.View ask) ≡ None
-      → IsEntered with_view tables new world.view after ask (view_reply tables.view ask) result
-      → Asked replies.View new given (journals_in new world.limits world.servers world.desk after) (steps.View ask) out
-  view_asked result out told none entered =
-      let now = journals_in new world.limits world.servers world.desk after in
-      let reply = (view_entry world ask).reply in
-      let next : length world.view + 1 ≡ suc (length world.view) = omega arith in
-      asked_at replies.View new world given now (steps.View ask) here result out told
-      (λ none. entered_here replies.View with_view tables new world now service (steps.View ask) ask reply world.view after result none
-      (subst (λ (r : ViewReply). IsEntered with_view tables new world.view after ask r result) (ap (λ (t : TablesView). view_reply t.view ask) service.stand) entered)
+  pub view_asked : refusal given (steps.View ask) ≡ None → FollowsView tables new ask → (number : ℕ) → number ≡ length world.view + 1
+      → (made : Replies ViewReply) → made ≡ view_replies tables.view ask → after ≡ world.view ++ entry ask made.entered ∷ []
+      → Asked replies.View new given (journals_in new world.limits world.servers world.desk after) (steps.View ask) (record { number = number; reply = made.told })
+  view_asked none follows number counted made are more =
+      let answered : Answered ViewReply = record { number = number; reply = made.told } in
+      let next : number ≡ suc (length world.view) = omega (arith, counted) in
+      let said = are ∙ ap (λ (t : TablesView). view_replies t.view ask) service.stand in
+      asked_at replies.View new world given (journals_in new world.limits world.servers world.desk after) (steps.View ask) answered here
+      (λ none. entered_here replies.View with_view tables new world (journals_in new world.limits world.servers world.desk after) service (steps.View ask) ask (view_entry world ask).reply answered none follows
       refl (view_journals none) (service.ran.0 ++ steps.View ask ∷ [], ran-push world (steps.View ask) none service.ran.0 service.ran.1)
-      (λ i. record { number = next i; reply = replies.View reply })
-      (λ stand more i. record { levels = (stand i).levels; limits = world.limits; servers = world.servers; desk = world.desk; view = more i })
-      (λ same stays. (λ i. journals_in (same i) world.limits world.servers world.desk (stays i)) ∙ same_levels tables world service)) none
+      (λ i. record { number = next i; reply = replies.View (said i).told })
+      (λ stand i. record {
+        levels = (stand i).levels;
+        limits = world.limits;
+        servers = world.servers;
+        desk = world.desk;
+        view = (more ∙ ap (λ (r : Replies ViewReply). world.view ++ entry ask r.entered ∷ []) said) i;
+      })) none
 
 -- what an ask of the view is told is an offer
 pub told_offers : {R : Type 0} (reply : R → Reply) (world : JournalsView) (step : Step) (result : Result (Answered R) AskFault)
@@ -250,32 +249,56 @@ module _ (tables : TablesView) (world : JournalsView) (service : IsService table
           of_tree = service.journals.of_tree;
         }
 
-    node_here : (new : TablesView) (servers : List (List NodeEntry)) (after : List NodeEntry) → servers ≡ set world.servers (server - 1) after
-        → {M : Type 0} (result : Result (Answered NodeReply) M) → refusal world (steps.Node server ask) ≡ None
-        → IsEntered (λ all e. with_node all server e) tables new journal after ask (reply_of (node_in tables.nodes server) ask) result
-        → Asked replies.Node new world (journals_in new world.limits servers world.desk world.view) (steps.Node server ask) (told_of result)
-    node_here new servers after placed result none entered =
+    node_here : (new : TablesView) (servers : List (List NodeEntry)) (after : List NodeEntry) → servers ≡ set world.servers (server - 1) after → refusal world (steps.Node server ask) ≡ None
+        → FollowsNode tables new server ask → (number : ℕ) → number ≡ length journal + 1 → (made : Replies NodeReply) → made ≡ node_replies tables.nodes server ask → after ≡ journal ++ entry ask made.entered ∷ []
+        → Asked replies.Node new world (journals_in new world.limits servers world.desk world.view) (steps.Node server ask) (record { number = number; reply = made.told })
+    node_here new servers after placed none follows number counted made are more =
         let e = node_entry world server ask in
+        let answered : Answered NodeReply = record { number = number; reply = made.told } in
         let count = ap (λ (entries : List NodeEntry). length entries) journal_is in
-        let next : length journal + 1 ≡ suc (length (server_journal world server)) = omega (arith, count) in
-        entered_here replies.Node (λ all e. with_node all server e) tables new world (journals_in new world.limits servers world.desk world.view) service (steps.Node server ask) ask e.reply journal after result none
-        (subst (λ (r : NodeReply). IsEntered (λ all e. with_node all server e) tables new journal after ask r result) (ap (λ (n : NodeView). reply_of n ask) node_stands) entered)
+        let next : number ≡ suc (length (server_journal world server)) = omega (arith, counted, count) in
+        let said = are ∙ ap (λ (n : NodeView). both (node_reply n.server n.state ask)) node_stands in
+        entered_here replies.Node (λ all e. with_node all server e) tables new world (journals_in new world.limits servers world.desk world.view) service (steps.Node server ask) ask e.reply answered none follows
         (λ i. record world { servers = set world.servers (server - 1) ((entries_are ∙ sym journal_is) i ++ e ∷ []) })
         (node_journals none) (service.ran.0 ++ steps.Node server ask ∷ [], ran-push world (steps.Node server ask) none service.ran.0 service.ran.1)
-        (λ i. record { number = next i; reply = replies.Node e.reply })
-        (λ stand more i. record {
+        (λ i. record { number = next i; reply = replies.Node (said i).told })
+        (λ stand i. record {
           levels = (stand i).levels;
           limits = world.limits;
-          servers = (placed ∙ ap (λ (entries : List NodeEntry). set world.servers (server - 1) entries) (more ∙ ap (λ (entries : List NodeEntry). entries ++ e ∷ []) (sym journal_is))) i;
+          servers = (placed
+              ∙ ap (λ (entries : List NodeEntry). set world.servers (server - 1) entries)
+              (more ∙ ap (λ (r : Replies NodeReply). journal ++ entry ask r.entered ∷ []) said ∙ ap (λ (entries : List NodeEntry). entries ++ e ∷ []) (sym journal_is))) i;
           desk = world.desk;
           view = world.view;
         })
-        (λ same stays.
-        (λ i. journals_in (same i) world.limits
-        ((placed
-        ∙ ap (λ (entries : List NodeEntry). set world.servers (server - 1) entries) (stays ∙ sym (get_or_from_slice_get world.servers (server - 1) journal journal there.1))
-        ∙ set-get_or world.servers (server - 1) journal) i) world.desk world.view)
-        ∙ same_levels tables world service)
+
+-- a journal whose entries are the same, beside the same tables, leaves all as they are
+same_servers : {V : Type 0} (items : V → List NodeEntry) (journals : List V) (k : ℕ) (journal after : V) → journal ≡ get_or journals k journal → items after ≡ items journal → map items (set journals k after) ≡ map items journals
+same_servers {V} items journals k journal after at same =
+    map-set items journals k after
+    ∙ ap (λ (entries : List NodeEntry). set (map items journals) k entries) same
+    ∙ sym (map-set items journals k journal)
+    ∙ ap (λ (one : V). map items (set journals k one)) at
+    ∙ ap (map items) (set-get_or journals k journal)
+
+pub node_stays : {V : Type 0} (items : V → List NodeEntry) (journals : List V) (tables : TablesView) (limits : LimitsView) (desk : List DeskEntry) (view : List ViewEntry) (given : JournalsView)
+    → journals_in tables limits (map items journals) desk view ≡ given → IsService tables (journals_in tables limits (map items journals) desk view)
+    → (k : ℕ) (journal after : V) → journal ≡ get_or journals k journal → items after ≡ items journal → (now : TablesView) → now ≡ tables
+    → (let world = journals_in now limits (map items (set journals k after)) desk view in IsService now world × (world ≡ given))
+node_stays items journals tables limits desk view given here service k journal after at same now stays =
+    let world = journals_in now limits (map items (set journals k after)) desk view in
+    let all : world ≡ journals_in tables limits (map items journals) desk view = λ i. journals_in (stays i) limits (same_servers items journals k journal after at same i) desk view in
+    (subst (λ (t : TablesView). IsService t world) (sym stays) (subst (λ (w : JournalsView). IsService tables w) (sym all) service), all ∙ here)
+
+-- of want of memory it is told that the step would be taken
+pub memory_told : {R : Type 0} (into : R → Reply) (world : JournalsView) (step : Step) (result : Result (Answered R) AskFault) → IsErrAnd result (λ fault. fault ≡ ask_faults.Memory) → refusal world step ≡ None
+    → IsTold world step (told_by into result)
+memory_told into world step (Ok told) is none = absurd is
+memory_told into world step (Err fault) is none = subst (λ (f : AskFault). IsTold world step (Err (refusal_of f))) (sym is) none
+
+pub on_err : {T E : Type 0} (P : Type 0) (result : Result T E) → P → OnErr result P
+on_err P (Ok told) holds = tt
+on_err P (Err fault) holds = holds
 
 -- an ask of a server of the tree, whatever the number is called that the step has
 module _ {V : Type 0} (items : V → List NodeEntry) (journals : List V) (tables : TablesView) (limits : LimitsView) (desk : List DeskEntry) (view : List ViewEntry) (given : JournalsView)
@@ -307,16 +330,21 @@ module _ {V : Type 0} (items : V → List NodeEntry) (journals : List V) (tables
   node_refused fault some =
       subst (λ (n : ℕ). IsTold given (steps.Node n ask) (Err (refusal_of fault))) same (refused-told given (steps.Node server ask) found refusal_is fault some)
 
-  pub node_asked : found ≡ None → (journal : V) → journal ≡ get_or journals (server - 1) journal → (new : TablesView) (after : V)
-      → {M : Type 0} (result : Result (Answered NodeReply) M) (out : Result (Answered NodeReply) AskFault) → out ≡ told_of result
-      → IsEntered (λ all e. with_node all server e) tables new (items journal) (items after) ask (reply_of (node_in tables.nodes server) ask) result
-      → Asked replies.Node new given (journals_in new limits (map items (set journals (server - 1) after)) desk view) (steps.Node number ask) out
-  node_asked none journal where_journal new after result out told entered =
+  pub node_free : found ≡ None → refusal given (steps.Node number ask) ≡ None
+  node_free none = subst (λ (n : ℕ). refusal given (steps.Node n ask) ≡ None) same (not-refused given (steps.Node server ask) found refusal_is none)
+
+  pub node_asked : found ≡ None → (journal : V) → journal ≡ get_or journals (server - 1) journal → (new : TablesView) → FollowsNode tables new server ask → (next : ℕ) → next ≡ entries + 1
+      → (made : Replies NodeReply) → made ≡ node_replies tables.nodes server ask → (after : V) → items after ≡ items journal ++ entry ask made.entered ∷ []
+      → Asked replies.Node new given (journals_in new limits (map items (set journals (server - 1) after)) desk view) (steps.Node number ask) (record { number = next; reply = made.told })
+  node_asked none journal where_journal new follows next is made are after more =
       let world = journals_in tables limits (map items journals) desk view in
       let servers = map items (set journals (server - 1) after) in
-      subst (λ (n : ℕ). Asked replies.Node new given (journals_in new limits servers desk view) (steps.Node n ask) out) same
-      (asked_at replies.Node new world given (journals_in new limits servers desk view) (steps.Node server ask) here result out told
-      (λ none. node_here tables world service server (items journal) (there_at journal where_journal) ask new servers (items after) (map-set items journals (server - 1) after) result none entered)
+      let answered : Answered NodeReply = record { number = next; reply = made.told } in
+      let one : items counted ≡ items journal = ap (λ (o : Option (List NodeEntry)). unwrap_or o []) (sym (there_at counted at) ∙ there_at journal where_journal) in
+      let behind = is ∙ ap (λ n. n + 1) (count ∙ ap (λ (all : List NodeEntry). length all) one) in
+      subst (λ (n : ℕ). Asked replies.Node new given (journals_in new limits servers desk view) (steps.Node n ask) answered) same
+      (asked_at replies.Node new world given (journals_in new limits servers desk view) (steps.Node server ask) answered here
+      (λ none. node_here tables world service server (items journal) (there_at journal where_journal) ask new servers (items after) (map-set items journals (server - 1) after) none follows next behind made are more)
       (not-refused given (steps.Node server ask) found refusal_is none))
 
 -- ---- a new service

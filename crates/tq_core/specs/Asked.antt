@@ -22,8 +22,3 @@ refusal_of (ask_faults.Unfounded part number) = refusals.Unfounded part number
 abbrev pub told_by : {R : Type 0} → (R → Reply) → Result (Answered R) AskFault → Result Answer Refusal
 told_by reply (Ok told) = Ok (answer_of reply told)
 told_by reply (Err fault) = Err (refusal_of fault)
-
--- what is told of an ask for which memory may have been refused
-abbrev pub told_of : {R M : Type 0} → Result (Answered R) M → Result (Answered R) AskFault
-told_of (Ok told) = Ok told
-told_of (Err refused) = Err ask_faults.Memory

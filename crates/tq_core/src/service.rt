@@ -2,15 +2,9 @@
 
 ghost use Rattle.std.specs.Prelude.{◌≡◌, ◌+◌, ◌-◌, ◌^◌, IfOk, OnOk, OnErr, length};
 ghost use Rattle.std.specs.Option.{option_copied, option_map};
-ghost use Rattle.tq_desk.specs.DeskStep.{desk_reply};
-ghost use Rattle.tq_live.specs.View.{view_reply};
-ghost use Rattle.tq_tables.specs.Asked.{MayAskDesk, MayAskNode, node_in};
-ghost use Rattle.tq_tables.specs.Journals.{with_desk, with_view};
-ghost use Rattle.tq_tables.specs.NextOfServer.{with_node};
 ghost use Rattle.tq_tables.specs.Parts.{AreLegal};
 ghost use Rattle.tq_tables.specs.Tables.{tables_of};
 ghost use Rattle.tq_core.specs.Asked as asks;
-ghost use Rattle.tq_core.specs.Service.{IsEntered, reply_of};
 
 use crate::{Answer, Answered, Journal, Refusal, Reply, Step};
 use std::alloc::Global;
@@ -20,9 +14,7 @@ use tq_desk::{DeskAsk, DeskReply};
 use tq_live::{View, ViewAsk, ViewReply};
 use tq_part::AskFault;
 use tq_shape::{Levels, Limits, Memory, Part, ServerId, make_room};
-use tq_tables::{
-    DeskEntry, Entry, Journals, NodeEntry, Replies, TabledJournals, Tables, ViewEntry,
-};
+use tq_tables::{DeskEntry, Entry, Journals, NodeEntry, Replies, TabledJournals, Tables};
 use tq_world::{Citation, CitedEntries, item_at, unfounded_in_desk_ask, unfounded_in_node_ask};
 
 /// All parts of a system, which the tables follow, and beside them a journal of each: its servers, its desk and its
@@ -191,23 +183,28 @@ impl Service {
         ensures err { OnErr result (self.new ≡ self.old) }
         ensures committed_reads { HasCommittedReads self.new }
     {
+        self.show_run();
         let number = server.number();
         let place = (number - 1) as usize;
         let unfounded = unfounded_in_node_ask(self, &ask);
         let entries = self.tabled.servers[place].len();
         if let Some(fault) = self.refusal(Part::Server(number), entries, unfounded) {
-            self.show_run();
             return Err(fault);
         }
-        let asked = enter_node(
-            &mut self.tabled.tables,
-            &mut self.tabled.servers[place],
-            alloc,
-            number,
+        let next = entries as u64 + 1;
+        let journal = &mut self.tabled.servers[place];
+        make_room(journal, 1)?;
+        let replies = self.tabled.tables.ask_node(alloc, number, next, &ask)?;
+        let Replies { entered, told } = replies;
+        journal.push_reserved(Entry {
             ask,
-        );
+            reply: entered,
+        });
         self.show_run();
-        told_of(asked)
+        Ok(Answered {
+            number: next,
+            reply: told,
+        })
     }
 
     /// Asks the desk: the ask is entered into its journal with its reply, which is told with the number of the entry.
@@ -218,14 +215,24 @@ impl Service {
         ensures err { OnErr result (self.new ≡ self.old) }
         ensures committed_reads { HasCommittedReads self.new }
     {
+        self.show_run();
         let unfounded = unfounded_in_desk_ask(self, &ask);
-        if let Some(fault) = self.refusal(Part::Desk, self.desk_journal().len(), unfounded) {
-            self.show_run();
+        let entries = self.tabled.desk.len();
+        if let Some(fault) = self.refusal(Part::Desk, entries, unfounded) {
             return Err(fault);
         }
-        let asked = enter_desk(&mut self.tabled.tables, &mut self.tabled.desk, alloc, ask);
+        make_room(&mut self.tabled.desk, 1)?;
+        let replies = self.tabled.tables.ask_desk(alloc, &ask)?;
+        let Replies { entered, told } = replies;
+        self.tabled.desk.push_reserved(Entry {
+            ask,
+            reply: entered,
+        });
         self.show_run();
-        told_of(asked)
+        Ok(Answered {
+            number: entries as u64 + 1,
+            reply: told,
+        })
     }
 
     /// Asks the view: the ask is entered into its journal with its reply, which is told with the number of the entry.
@@ -238,13 +245,23 @@ impl Service {
         ensures err { OnErr result (self.new ≡ self.old) }
         ensures committed_reads { HasCommittedReads self.new }
     {
-        if let Some(fault) = self.refusal(Part::View, self.tabled.view.len(), None) {
-            self.show_run();
+        self.show_run();
+        let entries = self.tabled.view.len();
+        if let Some(fault) = self.refusal(Part::View, entries, None) {
             return Err(fault);
         }
-        let asked = enter_view(&mut self.tabled.tables, &mut self.tabled.view, alloc, ask);
+        make_room(&mut self.tabled.view, 1)?;
+        let replies = self.tabled.tables.ask_view(alloc, &ask)?;
+        let Replies { entered, told } = replies;
+        self.tabled.view.push_reserved(Entry {
+            ask,
+            reply: entered,
+        });
         self.show_run();
-        told_of(asked)
+        Ok(Answered {
+            number: entries as u64 + 1,
+            reply: told,
+        })
     }
 
     /// Takes a step: asks a part, and enters the ask with the part's reply into its journal. Where the step is
@@ -324,96 +341,6 @@ impl Service {
             results.push_reserved(result);
         }
         Ok(results)
-    }
-}
-
-/// Asks a server under the number of its next entry, and enters the ask with its reply into the server's journal. Out of
-/// memory leaves the tables and the journal as they were.
-#[inline(always)]
-fn enter_node(
-    tables: &mut Tables,
-    journal: &mut Vec<NodeEntry>,
-    alloc: Global,
-    server: u64,
-    ask: NodeAsk,
-) -> Result<Answered<NodeReply>, Memory>
-    requires { MayAskNode tables.old server (length journal.old.items + 1) }
-    ensures { IsEntered (λ journals e. with_node journals server e)
-        tables.old tables.new journal.old.items journal.new.items ask
-        (reply_of (node_in tables.old.nodes server) ask) result }
-{
-    let number = journal.len() as u64 + 1;
-    make_room(journal, 1)?;
-    let replies = tables.ask_node(alloc, server, number, &ask)?;
-    let Replies { entered, told } = replies;
-    journal.push_reserved(Entry {
-        ask,
-        reply: entered,
-    });
-    Ok(Answered {
-        number,
-        reply: told,
-    })
-}
-
-/// Asks the desk, and enters the ask with its reply into the desk's journal. Out of memory leaves the tables and the
-/// journal as they were.
-fn enter_desk(
-    tables: &mut Tables,
-    journal: &mut Vec<DeskEntry>,
-    alloc: Global,
-    ask: DeskAsk,
-) -> Result<Answered<DeskReply>, Memory>
-    requires { MayAskDesk tables.old }
-    ensures { IsEntered with_desk tables.old tables.new journal.old.items journal.new.items ask
-        (desk_reply tables.old.desk ask) result }
-{
-    let number = journal.len() as u64 + 1;
-    make_room(journal, 1)?;
-    let replies = tables.ask_desk(alloc, &ask)?;
-    let Replies { entered, told } = replies;
-    journal.push_reserved(Entry {
-        ask,
-        reply: entered,
-    });
-    Ok(Answered {
-        number,
-        reply: told,
-    })
-}
-
-/// Asks the view, and enters the ask with its reply into the view's journal. Out of memory leaves the tables and the
-/// journal as they were.
-fn enter_view(
-    tables: &mut Tables,
-    journal: &mut Vec<ViewEntry>,
-    alloc: Global,
-    ask: ViewAsk,
-) -> Result<Answered<ViewReply>, Memory>
-    ensures { IsEntered with_view tables.old tables.new journal.old.items journal.new.items ask
-        (view_reply tables.old.view ask) result }
-{
-    let number = journal.len() as u64 + 1;
-    make_room(journal, 1)?;
-    let replies = tables.ask_view(alloc, &ask)?;
-    let Replies { entered, told } = replies;
-    journal.push_reserved(Entry {
-        ask,
-        reply: entered,
-    });
-    Ok(Answered {
-        number,
-        reply: told,
-    })
-}
-
-/// What an ask is told where it was taken, or memory was refused.
-fn told_of<R: Drop>(asked: Result<Answered<R>, Memory>) -> Result<Answered<R>, AskFault>
-    ensures { result ≡ asks.told_of asked }
-{
-    match asked {
-        Ok(told) => Ok(told),
-        Err(_) => Err(AskFault::Memory),
     }
 }
 

@@ -1,24 +1,34 @@
-use Rattle.std.proofs.Common.{◌∙◌, length, refl}
+use Rattle.std.proofs.Common.{◌∙◌, ◌+◌, ◌++◌, [], ◌∷◌, List, ap, length, refl}
+use Rattle.tq_shape.specs.Journal.{entry}
 use Rattle.tq_shape.specs.declared.part.Part.TheVariants.{Desk}
+use Rattle.tq_desk.specs.DeskJournal.{DeskEntry}
+use Rattle.tq_tables.specs.Journals.{JournalsView}
 use Rattle.tq_world.specs.declared.answer.Step.TheVariants as steps
 use Rattle.tq_world.specs.Steps.{refuse_entry}
 use Rattle.tq_core.proofs.Standing.{desk_asked, not-refused}
 use Rattle.tq_core.proofs.service.Service.ask_desk.Goals as goal
 
 pub invariant_of-self : goal.invariant_of-self
-invariant_of-self c =
+invariant_of-self c = rw c.make_room.ensures.items c.self.invariant
+
+pub invariant_of-self-2 : goal.invariant_of-self-2
+invariant_of-self-2 c =
     let now = c.args.self.now in
-    let refusal_is = c.refusal.ensures ∙ (λ i. refuse_entry now Desk (length (c.desk_journal.ensures i)) (c.unfounded_in_desk_ask-unfounded.ensures i)) in
-    let asked = desk_asked c.self.inside.tabled.tables c.enter_desk-asked.new.tables _ now c.self.view_is c.self.invariant c.enter_desk-asked.new.journal.items c.args.ask c.enter_desk-asked.result _ refl
+    let count = c.len-entries.ensures ∙ c.self.inside.tabled.desk.ok.0 in
+    let refusal_is = c.refusal.ensures ∙ (λ i. refuse_entry now Desk ((count ∙ ap (λ (w : JournalsView). length w.desk) c.self.view_is) i) (c.unfounded_in_desk_ask-unfounded.ensures i)) in
+    let made = c.in_ok-replies.replies in
+    let more = c.push_reserved.ensures.items ∙ ap (λ (entries : List DeskEntry). entries ++ entry c.args.ask made.entered ∷ []) c.make_room.ensures.items in
+    (desk_asked c.self.inside.tabled.tables c.ask_desk.new.self _ now c.self.view_is c.self.invariant c.push_reserved.new.self.items c.args.ask
     (not-refused now (steps.Desk c.args.ask) c.refusal.result refusal_is c.in_default.is)
-    c.enter_desk-asked.ensures in
-    asked.stands
+    c.in_ok-replies.ensures.asked _ refl made c.in_ok-replies.ensures.replies more).stands
 
 pub returns-clause-after : goal.returns-clause-after
 returns-clause-after c =
     let now = c.args.self.now in
-    let refusal_is = c.refusal.ensures ∙ (λ i. refuse_entry now Desk (length (c.desk_journal.ensures i)) (c.unfounded_in_desk_ask-unfounded.ensures i)) in
-    let asked = desk_asked c.self.inside.tabled.tables c.enter_desk-asked.new.tables _ now c.self.view_is c.self.invariant c.enter_desk-asked.new.journal.items c.args.ask c.enter_desk-asked.result _ c.told_of.ensures
+    let count = c.len-entries.ensures ∙ c.self.inside.tabled.desk.ok.0 in
+    let refusal_is = c.refusal.ensures ∙ (λ i. refuse_entry now Desk ((count ∙ ap (λ (w : JournalsView). length w.desk) c.self.view_is) i) (c.unfounded_in_desk_ask-unfounded.ensures i)) in
+    let made = c.in_ok-replies.replies in
+    let more = c.push_reserved.ensures.items ∙ ap (λ (entries : List DeskEntry). entries ++ entry c.args.ask made.entered ∷ []) c.make_room.ensures.items in
+    (desk_asked c.self.inside.tabled.tables c.ask_desk.new.self _ now c.self.view_is c.self.invariant c.push_reserved.new.self.items c.args.ask
     (not-refused now (steps.Desk c.args.ask) c.refusal.result refusal_is c.in_default.is)
-    c.enter_desk-asked.ensures in
-    asked.after
+    c.in_ok-replies.ensures.asked _ refl made c.in_ok-replies.ensures.replies more).after
