@@ -1,5 +1,5 @@
 //! The rows of files, found by the names of the files.
-ghost use Rattle.std.specs.Prelude.{[], ◌≡◌, ◌≤◌, ◌<◌, ◌+◌, length, map, IfOk, IsTrue, OnOk};
+ghost use Rattle.std.specs.Prelude.{[], ◌≡◌, ◌≤◌, ◌<◌, ◌+◌, true, length, map, IfOk, IsTrue, OnOk};
 ghost use Rattle.std.specs.Bool.{OnFalse, OnTrue};
 ghost use Rattle.std.specs.Option.{option_copied};
 ghost use Rattle.tq_node.specs.Untouched.{AreReached, HasOffered, offered_files, raised_files};
@@ -170,7 +170,7 @@ impl FileTable {
         ensures rows { OnTrue result (self.new.rows
             ≡ map (spec.stood_at node.now file.now) self.old.rows) }
         ensures other { OnFalse result (self.new.rows ≡ self.old.rows) }
-        ensures found { OnTrue result (HasRowAt (by_file self.old.rows) place file.now) }
+        ensures found { OnTrue result (has_row self.old.rows file.now ≡ true) }
         ensures there { HasRowAt (by_file self.old.rows) place file.now → IsTrue result }
     {
         let _levels = self.levels;
