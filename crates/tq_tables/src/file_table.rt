@@ -157,13 +157,7 @@ impl FileTable {
 
     /// The same where the row at that place is the file's; nothing where it is not. Answers whether it is.
     #[inline(always)]
-    fn set_currency_at(
-        &mut self,
-        place: usize,
-        node: &Node,
-        file: &FileName,
-        least: u64,
-    ) -> bool
+    fn set_currency_at(&mut self, place: usize, node: &Node, file: &FileName, least: u64) -> bool
         requires levels { node.now.levels ≡ self.old.levels }
         requires least { least ≤ (copy_of node.now.state.records.copies file.now).version }
         ensures levels { self.new.levels ≡ self.old.levels }
