@@ -15,6 +15,7 @@ use std::alloc::Global;
 use tq_shape::Memory;
 
 /// An ask with its reply.
+#[inline(always)]
 pub(crate) fn put_entry<A: ToJson, R: ToJson, O: Out>(
     out: &mut O,
     ask: &A,

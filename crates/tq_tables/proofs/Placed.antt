@@ -32,6 +32,14 @@ no-value-at [] (suc place) entry none at = absurd (cc)
 no-value-at (first ∷ entries) zero entry none at = absurd (cc)
 no-value-at (first ∷ entries) (suc place) entry none at = no-value-at entries place entry none at
 
+-- the value that is there, put there again
+pub set-same : (entries : List (List ℕ × FileRow)) (place : ℕ) (value : FileRow) → slice_get (map (λ e. e.1) entries) place ≡ Some value → set_value_at entries place value ≡ entries
+set-same [] place value at = refl
+set-same (first ∷ entries) zero value at =
+    let same : first.1 ≡ value = ap (λ o. unwrap_or o value) at in
+    ap (λ (v : FileRow). (first.0, v) ∷ entries) (sym same)
+set-same (first ∷ entries) (suc place) value at = ap (λ es. first ∷ es) (set-same entries place value at)
+
 module _ (file : List ℕ) (row : FileRow) where
   -- it is a row of the file, of the tree
   pub at-row : (levels : ℕ) (rows : List FileRow) (place : ℕ) → AreOfLevels levels rows → slice_get (by_file rows) place ≡ Some (file, row) → (row.file ≡ file) × IsOfLevels levels row

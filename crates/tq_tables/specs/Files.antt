@@ -139,17 +139,17 @@ HoldsWritten node writes = AllByRecursion (λ write. write.version ≤ (copy_of 
 
 -- ---- the row at a place, if there is one
 
--- the server's copy of the row's file is at least of that version
-abbrev pub ReachesRowAt : List (List ℕ × FileRow) → ℕ → NodeView → ℕ → Type 0
-ReachesRowAt entries place node least = (file : List ℕ) (row : FileRow) → slice_get entries place ≡ Some (file, row) → least ≤ (copy_of node.state.records.copies row.file).version
+-- it is a row of the file, whatever the name that it stands under
+abbrev pub IsFileAt : List (List ℕ × FileRow) → ℕ → List ℕ → Type 0
+IsFileAt entries place file = (name : List ℕ) × (row : FileRow) × (slice_get entries place ≡ Some (name, row)) × (row.file ≡ file)
 
--- the row's sets of servers are of the server's tree
+-- its sets of servers are of the server's tree
 abbrev pub FitsRowAt : List (List ℕ × FileRow) → ℕ → NodeView → Type 0
 FitsRowAt entries place node = (file : List ℕ) (row : FileRow) → slice_get entries place ≡ Some (file, row) → (node.levels ≡ row.current.levels) × (node.levels ≡ row.stale.levels)
 
--- the server stands there where its copy says, and nothing else changes
-abbrev pub StandsAt : List (List ℕ × FileRow) → List (List ℕ × FileRow) → ℕ → NodeView → Type 0
-StandsAt old new place node = (file : List ℕ) (row : FileRow) → slice_get old place ≡ Some (file, row) → new ≡ set_value_at old place (row_by_copy node row)
+-- it is the file's, the server stands there where its copy says, and nothing else changes
+abbrev pub StandsAt : List (List ℕ × FileRow) → List (List ℕ × FileRow) → ℕ → List ℕ → NodeView → Type 0
+StandsAt old new place file node = (name : List ℕ) × (row : FileRow) × (slice_get old place ≡ Some (name, row)) × (row.file ≡ file) × (new ≡ set_value_at old place (row_by_copy node row))
 
 -- ---- what changes
 

@@ -82,6 +82,7 @@ impl FileRow {
 
     /// The server, whose copy of the file is at least of that version, is current where its copy is of the row's version or
     /// a later one, and else stale. It takes no memory.
+    #[inline(always)]
     pub(crate) fn set_currency(&mut self, node: &Node, least: u64)
         requires least { least ≤ (copy_of node.now.state.records.copies self.old.file).version }
         requires current { node.now.levels ≡ self.old.current.levels }

@@ -1,6 +1,6 @@
 //! The rows of files, found by the names of the files.
-ghost use Rattle.std.specs.Prelude.{[], ◌≡◌, ◌≤◌, ◌<◌, ◌+◌, true, length, map, IfOk, OnOk};
-ghost use Rattle.std.specs.Bool.{OnTrue};
+ghost use Rattle.std.specs.Prelude.{[], ◌≡◌, ◌≤◌, ◌<◌, ◌+◌, true, length, map, IfOk, IsTrue, OnOk};
+ghost use Rattle.std.specs.Bool.{OnFalse, OnTrue};
 ghost use Rattle.std.specs.Option.{option_copied};
 ghost use Rattle.tq_node.specs.Untouched.{AreReached, HasOffered, offered_files, raised_files};
 ghost use Rattle.tq_store.specs.Copies.{copy_of};
@@ -152,22 +152,23 @@ impl FileTable {
             return false;
         };
         self.last = place;
-        self.set_currency_at(place, node, file, least);
-        true
+        self.set_currency_at(place, node, file, least)
     }
 
-    /// The same where the row of the file is the one at that place.
+    /// The same where the row at that place is the file's; nothing where it is not. Answers whether it is.
     #[inline(always)]
-    fn set_currency_at(&mut self, place: usize, node: &Node, file: &FileName, least: u64)
-        requires there { HasRowAt (by_file self.old.rows) place file.now }
+    fn set_currency_at(&mut self, place: usize, node: &Node, file: &FileName, least: u64) -> bool
         requires levels { node.now.levels ≡ self.old.levels }
         requires least { least ≤ (copy_of node.now.state.records.copies file.now).version }
         ensures levels { self.new.levels ≡ self.old.levels }
-        ensures rows { self.new.rows ≡ map (spec.stood_at node.now file.now) self.old.rows }
-        ensures found { has_row self.old.rows file.now ≡ true }
+        ensures rows { OnTrue result (self.new.rows
+            ≡ map (spec.stood_at node.now file.now) self.old.rows) }
+        ensures other { OnFalse result (self.new.rows ≡ self.old.rows) }
+        ensures found { OnTrue result (has_row self.old.rows file.now ≡ true) }
+        ensures there { HasRowAt (by_file self.old.rows) place file.now → IsTrue result }
     {
         let _levels = self.levels;
-        set_currency_in(&mut self.rows, place, node, least);
+        set_currency_in(&mut self.rows, place, node, file, least)
     }
 
     /// The same for a file that is likely to be that of the row that was found last, as where a refresh goes from server to
@@ -179,9 +180,7 @@ impl FileTable {
         ensures rows { self.new.rows ≡ map (spec.stood_at node.now file.now) self.old.rows }
         ensures found { result ≡ has_row self.old.rows file.now }
     {
-        let last = self.last;
-        if has_row_at(self.rows(), last, file) {
-            self.set_currency_at(last, node, file, least);
+        if self.set_currency_at(self.last, node, file, least) {
             return true;
         }
         self.set_currency(node, file, least)
@@ -254,30 +253,31 @@ impl FileTable {
     }
 }
 
-/// Whether the row of the file stands at the place.
-#[inline(always)]
-fn has_row_at(rows: &[FileRow], place: usize, file: &FileName) -> bool
-    ensures { OnTrue result (HasRowAt (by_file rows.now) place file.now) }
-{
-    match rows.get(place) {
-        Some(row) => row.file == *file,
-        None => false,
-    }
-}
-
-/// In the row at the place, if there is one, the server is current or stale as its copy says. It takes no memory.
+/// In the row at the place, if it is the file's, the server is current or stale as its copy says; else nothing changes.
+/// Answers whether it is the file's. It takes no memory.
 #[inline(always)]
 fn set_currency_in(
     rows: &mut BoundedIndexMap<FileName, FileRow>,
     place: usize,
     node: &Node,
+    file: &FileName,
     least: u64,
-)
-    requires least { spec.ReachesRowAt rows.old.entries place node.now least }
+) -> bool
+    requires least { least ≤ (copy_of node.now.state.records.copies file.now).version }
     requires levels { spec.FitsRowAt rows.old.entries place node.now }
-    ensures { spec.StandsAt rows.old.entries rows.new.entries place node.now }
+    ensures rows { OnTrue result
+        (spec.StandsAt rows.old.entries rows.new.entries place file.now node.now) }
+    ensures other { OnFalse result (rows.new.entries ≡ rows.old.entries) }
+    ensures there { spec.IsFileAt rows.old.entries place file.now → IsTrue result }
 {
-    if let Some(row) = rows.get_index_mut(place) {
-        row.set_currency(node, least);
+    match rows.get_index_mut(place) {
+        Some(row) => {
+            if row.file != *file {
+                return false;
+            }
+            row.set_currency(node, least);
+            true
+        }
+        None => false,
     }
 }

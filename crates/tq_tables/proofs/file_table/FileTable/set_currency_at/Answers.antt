@@ -1,24 +1,29 @@
 use Rattle.std.specs.Prelude.{slice_get}
-use Rattle.std.proofs.Common.{◌≡◌, ◌≤◌, ◌∙◌, ℕ, List, map, ap, sym, subst}
-use Rattle.std.proofs.lemmas.Option.{same_Some}
-use Rattle.tq_store.specs.Copies.{copy_of}
-use Rattle.tq_tables.specs.Files.{FilesView, HasRowAt, by_file, stood_at}
+use Rattle.std.specs.Bool.{OnFalse, OnTrue}
+use Rattle.std.proofs.Common.{◌≡◌, ◌∙◌, ℕ, Bool, true, false, List, Some, map, ap, subst, sym}
+use Rattle.std.proofs.lemmas.Bool.{OnFalse_at, OnFalse_from, OnTrue_at, OnTrue_from}
+use Rattle.tq_node.specs.Node.{NodeView}
+use Rattle.tq_tables.specs.Files.{AreFiles, FilesView, IsFileAt, StandsAt, by_file, stood_at}
 use Rattle.tq_tables.specs.declared.file_row.FileRow.{FileRow}
 use Rattle.tq_tables.proofs.Kept.{are-files, are-rows, Apart-stood, of_tree-stood}
 use Rattle.tq_tables.proofs.Placed.{named-at, placed, stand-entries-placed}
 use Rattle.tq_tables.proofs.file_table.FileTable.set_currency_at.Goals as goal
 
--- the row of the file among the entries inside
-inside-there : (entries : List (List ℕ × FileRow)) (now : FilesView) (place : ℕ) (file : List ℕ) → entries ≡ by_file (map (λ entry. entry.1) entries) → map (λ entry. entry.1) entries ≡ now.rows
-    → HasRowAt (by_file now.rows) place file → HasRowAt entries place file
-inside-there entries now place file named are there = (there.0, ap (λ es. slice_get es place) (named ∙ ap by_file are) ∙ there.1)
+module _ (levels place : ℕ) (file : List ℕ) (node : NodeView) (entries new : List (List ℕ × FileRow)) (are : AreFiles levels entries) where
+  abbrev stood_rows : List FileRow
+  stood_rows = map (stood_at node file) (map (λ entry. entry.1) entries)
 
-pub set_currency_in-requires-clause-least : goal.set_currency_in-requires-clause-least
-set_currency_in-requires-clause-least c = λ name row at.
-    let there = inside-there c.self.inside.rows.entries c.args.self.now c.args.place c.args.file.now c.self.invariant.named (ap (λ (v : FilesView). v.rows) c.self.view_is) c.requires.there in
-    let names : name ≡ c.args.file.now = ap (λ (p : List ℕ × FileRow). p.0) (same_Some (name, row) (c.args.file.now, there.0) (sym at ∙ there.1)) in
-    let file : row.file ≡ c.args.file.now = (placed c.self.inside.levels c.self.inside.rows.entries c.args.place name row c.self.invariant at).0 ∙ names in
-    subst (λ (f : List ℕ). c.args.least ≤ (copy_of c.args.node.now.state.records.copies f).version) (sym file) c.requires.least
+  -- a row of the file stands under its name
+  named : (there : IsFileAt entries place file) → slice_get entries place ≡ Some (file, there.1)
+  named there = there.2 ∙ ap (λ (n : List ℕ). Some (n, there.1)) (sym (placed levels entries place there.0 there.1 are there.2).0 ∙ there.3)
+
+  -- where the server stands in it, it does in the rows of the file
+  stood : StandsAt entries new place file node → new ≡ by_file stood_rows
+  stood it = it.4 ∙ stand-entries-placed levels node entries place file it.1 are (named (it.0, it.1, it.2, it.3))
+
+  kept : (found : Bool) → OnTrue found (StandsAt entries new place file node) → OnFalse found (new ≡ entries) → AreFiles levels new
+  kept true stands same = are-files levels new stood_rows (stood stands) (Apart-stood node file (map (λ entry. entry.1) entries) are.apart) (of_tree-stood levels node file (map (λ entry. entry.1) entries) are.of_tree)
+  kept false stands same = subst (AreFiles levels) (sym same) are
 
 pub set_currency_in-requires-clause-levels : goal.set_currency_in-requires-clause-levels
 set_currency_in-requires-clause-levels c = λ name row at.
@@ -28,25 +33,32 @@ set_currency_in-requires-clause-levels c = λ name row at.
 
 pub invariant_of-self : goal.invariant_of-self
 invariant_of-self c =
-    let rows = map (λ entry. entry.1) c.self.inside.rows.entries in
-    let node = c.args.node.now in
-    let file = c.args.file.now in
-    let there = inside-there c.self.inside.rows.entries c.args.self.now c.args.place file c.self.invariant.named (ap (λ (v : FilesView). v.rows) c.self.view_is) c.requires.there in
-    let are : c.set_currency_in.new.rows.entries ≡ by_file (map (stood_at node file) rows) =
-    c.set_currency_in.ensures file there.0 there.1
-    ∙ stand-entries-placed c.self.inside.levels node c.self.inside.rows.entries c.args.place file there.0 c.self.invariant there.1 in
-    are-files c.self.inside.levels c.set_currency_in.new.rows.entries (map (stood_at node file) rows) are
-    (Apart-stood node file rows c.self.invariant.apart) (of_tree-stood c.self.inside.levels node file rows c.self.invariant.of_tree)
+    kept c.self.inside.levels c.args.place c.args.file.now c.args.node.now c.self.inside.rows.entries c.set_currency_in.new.rows.entries c.self.invariant
+    c.set_currency_in.result c.set_currency_in.ensures.rows c.set_currency_in.ensures.other
 
 pub returns-clause-rows : goal.returns-clause-rows
 returns-clause-rows c =
-    let rows = map (λ entry. entry.1) c.self.inside.rows.entries in
+    let entries = c.self.inside.rows.entries in
+    let new = c.set_currency_in.new.rows.entries in
     let node = c.args.node.now in
     let file = c.args.file.now in
-    let there = inside-there c.self.inside.rows.entries c.args.self.now c.args.place file c.self.invariant.named (ap (λ (v : FilesView). v.rows) c.self.view_is) c.requires.there in
-    are-rows c.set_currency_in.new.rows.entries (map (stood_at node file) rows) (c.set_currency_in.ensures file there.0 there.1
-    ∙ stand-entries-placed c.self.inside.levels node c.self.inside.rows.entries c.args.place file there.0 c.self.invariant there.1)
-    ∙ ap (λ (v : FilesView). map (stood_at node file) v.rows) c.self.view_is
+    OnTrue_from c.set_currency_in.result _ (λ found.
+    are-rows new (map (stood_at node file) (map (λ entry. entry.1) entries)) (stood c.self.inside.levels c.args.place file node entries new c.self.invariant (OnTrue_at found c.set_currency_in.ensures.rows))
+    ∙ ap (λ (v : FilesView). map (stood_at node file) v.rows) c.self.view_is)
+
+pub returns-clause-other : goal.returns-clause-other
+returns-clause-other c = OnFalse_from c.set_currency_in.result _ (λ other.
+    ap (λ (es : List (List ℕ × FileRow)). map (λ entry. entry.1) es) (OnFalse_at other c.set_currency_in.ensures.other) ∙ ap (λ (v : FilesView). v.rows) c.self.view_is)
 
 pub returns-clause-found : goal.returns-clause-found
-returns-clause-found c = named-at c.args.file.now c.requires.there.0 c.args.self.now.rows c.args.place c.requires.there.1
+returns-clause-found c = OnTrue_from c.set_currency_in.result _ (λ found.
+    let it = OnTrue_at found c.set_currency_in.ensures.rows in
+    let at = named c.self.inside.levels c.args.place c.args.file.now c.args.node.now c.self.inside.rows.entries c.set_currency_in.new.rows.entries c.self.invariant (it.0, it.1, it.2, it.3) in
+    named-at c.args.file.now it.1 c.args.self.now.rows c.args.place
+    (ap (λ es. slice_get es c.args.place) (sym (c.self.invariant.named ∙ ap (λ (v : FilesView). by_file v.rows) c.self.view_is)) ∙ at))
+
+pub returns-clause-there : goal.returns-clause-there
+returns-clause-there c = λ there.
+    let at : slice_get c.self.inside.rows.entries c.args.place ≡ Some (c.args.file.now, there.0) =
+    ap (λ es. slice_get es c.args.place) (c.self.invariant.named ∙ ap (λ (v : FilesView). by_file v.rows) c.self.view_is) ∙ there.1 in
+    c.set_currency_in.ensures.there (c.args.file.now, there.0, at, (placed c.self.inside.levels c.self.inside.rows.entries c.args.place c.args.file.now there.0 c.self.invariant at).0)
