@@ -1,6 +1,6 @@
 -- A service stands as its journals say, also after one more entry.
 use Rattle.std.proofs.Common.{◌≡◌, ◌≤◌, ◌<◌, ◌+◌, ◌-◌, ◌^◌, ℕ, suc, Bool, true, false, cond, List, [], ◌∷◌, ◌++◌, length, map, set, get_or, replicate, Option, Some, None, refl, sym, ap, subst, ◌∙◌, arith}
-use Rattle.std.specs.Prelude.{nat_lt, slice_get, Result, Ok, Err, IfOk, OnOk, OnErr}
+use Rattle.std.specs.Prelude.{nat_lt, slice_get, Result, Ok, Err, IfOk, OnErr}
 use Rattle.std.specs.Option.{option_map, unwrap_or}
 use Rattle.std.specs.Result.{IsErrAnd}
 use Rattle.std.proofs.lemmas.List.{get_or-map, length-map, length-set, length-replicate, length_push, map-set, set-get_or}
@@ -39,7 +39,6 @@ use Rattle.tq_tables.specs.NextOfServer.{entries_of, with_node}
 use Rattle.tq_tables.specs.Parts.{AreLegal, node_after_all}
 use Rattle.tq_tables.specs.Tables.{TablesView, tables_of}
 use Rattle.tq_tables.proofs.Restood.{is_there, node_in-at, node_is}
-use Rattle.tq_world.specs.declared.answer.Answer.{Answer}
 use Rattle.tq_world.specs.declared.answer.Reply.{Reply}
 use Rattle.tq_world.specs.declared.answer.Reply.TheVariants as replies
 use Rattle.tq_world.specs.declared.answer.Step.{Step}

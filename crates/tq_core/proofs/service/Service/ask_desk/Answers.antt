@@ -1,4 +1,4 @@
-use Rattle.std.proofs.Common.{◌∙◌, ◌+◌, ◌++◌, [], ◌∷◌, List, ap, length, refl}
+use Rattle.std.proofs.Common.{◌∙◌, ◌++◌, [], ◌∷◌, List, ap, length, refl}
 use Rattle.tq_shape.specs.Journal.{entry}
 use Rattle.tq_shape.specs.declared.part.Part.TheVariants.{Desk}
 use Rattle.tq_desk.specs.DeskJournal.{DeskEntry}

@@ -1,4 +1,4 @@
-use Rattle.std.proofs.Common.{◌∙◌, ◌+◌, ◌-◌, ◌++◌, [], ◌∷◌, List, ap, refl}
+use Rattle.std.proofs.Common.{◌∙◌, ◌-◌, ◌++◌, [], ◌∷◌, List, ap, refl}
 use Rattle.tq_shape.specs.Journal.{entry}
 use Rattle.tq_node.specs.NodeJournal.{NodeEntry}
 use Rattle.tq_world.specs.declared.answer.Reply.TheVariants as replies
