@@ -1,9 +1,9 @@
 //! The subcommands, their words and their help.
 
-ghost use Rattle.std.specs.Prelude.{◌≡◌, IfOk, false, codes};
-ghost use Rattle.clap.specs.Words.{app_of, found_of, rows_of, rule_of};
+ghost use Rattle.std.specs.Prelude.{◌≡◌, IfOk, None, false, codes};
+ghost use Rattle.clap.specs.Words.{app_of, found_of, new_app, rows_of, rule_of};
 ghost use Rattle.clap.specs.declared.builder.command.Command.TheViews.{out-Command};
-ghost use Rattle.tq_cli.specs.Command.{HasNumber, IsGiven, IsGivenOrZero, MayHaveNumber, app_with_audit, app_with_shell, app_with_threads, audit_app, levels_rule, rounds_rule, shell_app, threads_app, threads_app_with_levels, threads_app_with_workers, top_app, tq_app, upgrade_app, workers_rule};
+ghost use Rattle.tq_cli.specs.Command.{HasNumber, IsGiven, IsGivenOrZero, MayHaveNumber, app_with_audit, app_with_shell, app_with_threads, audit_app, levels_rule, rounds_rule, set_rule, shell_app, threads_app, threads_app_with_levels, threads_app_with_workers, top_app, tq_app, upgrade_app, workers_rule};
 
 use clap::error::ErrorKind;
 use clap::{Arg, ArgAction, ArgMatches, Command, Error};
@@ -181,20 +181,42 @@ fn command_with_shell<'a>(alloc: Global) -> Result<Command<'a>, AllocError>
     ensures { IfOk result (λ command. app_of command ≡ app_with_shell) }
 {
     let shell = shell_command(alloc)?;
-    top_command(alloc).subcommand(shell)
+    let top = top_command(alloc, "tq", ABOUT, FIRST).long_about(TREE);
+    top.subcommand(shell)
 }
 
-/// The program without its subcommands.
-fn top_command<'a>(alloc: Global) -> Command<'a>
-    ensures { app_of result ≡ top_app }
+/// A program of that name without its subcommands.
+pub(crate) fn top_command<'a>(
+    alloc: Global,
+    name: &'a str,
+    about: &'a str,
+    first: &'a str,
+) -> Command<'a>
+    ensures { app_of result ≡ top_app name.entry.now }
 {
-    Command::new(alloc, "tq")
-        .about(ABOUT)
-        .long_about(TREE)
-        .after_help(FIRST)
+    Command::new(alloc, name)
+        .about(about)
+        .after_help(first)
         .version("0.1.0")
         .subcommand_required(true)
         .disable_help_subcommand(true)
+}
+
+/// A subcommand of that name with its help, and no arguments.
+pub(crate) fn bare_command<'a>(
+    alloc: Global,
+    name: &'a str,
+    about: &'a str,
+    short: &'a str,
+    long: &'a str,
+) -> Command<'a>
+    ensures app { app_of result ≡ new_app name.entry.now }
+    ensures local { (out-Command result).has_globals ≡ false }
+{
+    Command::new(alloc, name)
+        .about(about)
+        .after_help(short)
+        .after_long_help(long)
 }
 
 /// `shell --levels N`.
@@ -202,11 +224,8 @@ fn shell_command<'a>(alloc: Global) -> Result<Command<'a>, AllocError>
     ensures app { IfOk result (λ command. app_of command ≡ shell_app) }
     ensures local { IfOk result (λ command. (out-Command command).has_globals ≡ false) }
 {
-    Command::new(alloc, "shell")
-        .about("Reads lines from standard input and answers each")
-        .after_help(SHORT_LINES)
-        .after_long_help(LINES)
-        .arg(levels_argument(alloc))
+    let command = bare_command(alloc, "shell", ABOUT_SHELL, SHORT_LINES, LINES);
+    command.arg(levels_argument(alloc))
 }
 
 /// `threads --levels N [--workers W] [--rounds R]`.
@@ -232,11 +251,8 @@ fn threads_with_levels<'a>(alloc: Global) -> Result<Command<'a>, AllocError>
     ensures app { IfOk result (λ command. app_of command ≡ threads_app_with_levels) }
     ensures local { IfOk result (λ command. (out-Command command).has_globals ≡ false) }
 {
-    Command::new(alloc, "threads")
-        .about("Reads scripts of clients from standard input and runs them in threads")
-        .after_help(SHORT_SCRIPTS)
-        .after_long_help(SCRIPTS)
-        .arg(levels_argument(alloc))
+    let command = bare_command(alloc, "threads", ABOUT_THREADS, SHORT_SCRIPTS, SCRIPTS);
+    command.arg(levels_argument(alloc))
 }
 
 /// `audit`.
@@ -244,11 +260,8 @@ fn audit_command<'a>(alloc: Global) -> Command<'a>
     ensures app { app_of result ≡ audit_app }
     ensures local { (out-Command result).has_globals ≡ false }
 {
-    Command::new(alloc, "audit")
-        .about("Reads a journal file and says whether one run explains it")
+    bare_command(alloc, "audit", ABOUT_AUDIT, SHORT_AUDITS, AUDITS)
         .override_usage("tq audit < FILE")
-        .after_help(SHORT_AUDITS)
-        .after_long_help(AUDITS)
 }
 
 /// `upgrade`.
@@ -256,23 +269,34 @@ fn upgrade_command<'a>(alloc: Global) -> Command<'a>
     ensures app { app_of result ≡ upgrade_app }
     ensures local { (out-Command result).has_globals ≡ false }
 {
-    Command::new(alloc, "upgrade")
-        .about("Reads a journal file of any format and writes it in the newest")
+    bare_command(alloc, "upgrade", ABOUT_UPGRADE, SHORT_UPGRADES, UPGRADES)
         .override_usage("tq upgrade < FILE > NEW")
-        .after_help(SHORT_UPGRADES)
-        .after_long_help(UPGRADES)
+}
+
+/// An argument that is given a value, which help calls by that name.
+pub(crate) fn set_argument<'a>(
+    alloc: Global,
+    id: &'a str,
+    name: &'a str,
+    help: &'a str,
+    required: bool,
+) -> Arg<'a>
+    ensures rule { rule_of result ≡ set_rule id.entry.now None 1 None required }
+    ensures local { result.global ≡ false }
+{
+    Arg::new(alloc, id)
+        .value_name(name)
+        .help(help)
+        .required(required)
+        .action(ArgAction::Set)
 }
 
 pub(crate) fn levels_argument<'a>(alloc: Global) -> Arg<'a>
     ensures rule { rule_of result ≡ levels_rule }
     ensures local { result.global ≡ false }
 {
-    Arg::new(alloc, "levels")
+    set_argument(alloc, "levels", "N", "The levels of the tree, 1 to 10", true)
         .long("levels")
-        .value_name("N")
-        .help("The levels of the tree, 1 to 10")
-        .required(true)
-        .action(ArgAction::Set)
         .value_parser(clap::value_parser!(u32).range(1..=10))
 }
 
@@ -280,11 +304,9 @@ fn workers_argument<'a>(alloc: Global) -> Arg<'a>
     ensures rule { rule_of result ≡ workers_rule }
     ensures local { result.global ≡ false }
 {
-    Arg::new(alloc, "workers")
+    let help = "Threads that mend stale copies, 0 to 2 (default 0)";
+    set_argument(alloc, "workers", "W", help, false)
         .long("workers")
-        .value_name("W")
-        .help("Threads that mend stale copies, 0 to 2 (default 0)")
-        .action(ArgAction::Set)
         .value_parser(clap::value_parser!(u32).range(0..=2))
 }
 
@@ -292,13 +314,20 @@ fn rounds_argument<'a>(alloc: Global) -> Arg<'a>
     ensures rule { rule_of result ≡ rounds_rule }
     ensures local { result.global ≡ false }
 {
-    Arg::new(alloc, "rounds")
+    let help = "How often they look for such copies, 0 to 1000 (default 0)";
+    set_argument(alloc, "rounds", "R", help, false)
         .long("rounds")
-        .value_name("R")
-        .help("How often they look for such copies, 0 to 1000 (default 0)")
-        .action(ArgAction::Set)
         .value_parser(clap::value_parser!(u32).range(0..=1_000))
 }
+
+const ABOUT_SHELL: &str = "Reads lines from standard input and answers each";
+
+const ABOUT_THREADS: &str =
+    "Reads scripts of clients from standard input and runs them in threads";
+
+const ABOUT_AUDIT: &str = "Reads a journal file and says whether one run explains it";
+
+const ABOUT_UPGRADE: &str = "Reads a journal file of any format and writes it in the newest";
 
 const ABOUT: &str = "\
 Keeps whole files in copies on the servers of a tree, and runs transactions

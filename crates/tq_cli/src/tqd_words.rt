@@ -3,11 +3,11 @@ ghost use Rattle.std.specs.Prelude.{◌≡◌, ℕ, IfOk, IfErr, Some, codes, dr
 ghost use Rattle.clap.specs.Words.{app_of, found_of, many_of, rows_of, rule_of, subcommand_rows_of, values_left};
 ghost use Rattle.clap.specs.declared.builder.command.Command.TheViews.{out-Command};
 ghost use Rattle.tq_cli.specs.Command.{HasNumber, IsGiven, IsRefused, texts_of};
-ghost use Rattle.tq_cli.specs.TqdWords.{AreLimits, AreOptions, AsksFor, CanAsk, CanAskLast, CanAskPart, CanBePart, HasLimit, HasLimits, HasText, IsRead, IsText, app_with_desk, app_with_rehearsal, app_with_server, file_rule, first_number, limits_rule, log_rule, part_app, part_app_with_log, rehearse_app, server_app, server_rule, top_app, tqd_app};
+ghost use Rattle.tq_cli.specs.TqdWords.{AreLimits, AreOptions, AsksFor, CanAsk, CanAskLast, CanAskPart, CanBePart, HasLimit, HasLimits, HasText, IsRead, IsText, app_with_desk, app_with_rehearsal, app_with_server, first_number, limits_rule, log_rule, part_app, part_app_with_log, rehearse_app, server_app, server_rule, tqd_app};
 
-use crate::command::{WordsFault, levels_argument, levels_of};
+use crate::command::{WordsFault, bare_command, levels_argument, levels_of, set_argument, top_command};
 use clap::parser::ValuesRef;
-use clap::{Arg, ArgAction, ArgMatches, Command};
+use clap::{Arg, ArgMatches, Command};
 use std::alloc::{AllocError, Global};
 use tq_shape::{Levels, MOST_ENTRIES, MOST_FILES, MOST_OPS};
 
@@ -218,19 +218,7 @@ fn command_with_rehearsal<'a>(alloc: Global) -> Result<Command<'a>, AllocError>
     ensures { IfOk result (λ command. app_of command ≡ app_with_rehearsal) }
 {
     let rehearse = rehearse_command(alloc)?;
-    top_command(alloc).subcommand(rehearse)
-}
-
-/// The program without its subcommands.
-fn top_command<'a>(alloc: Global) -> Command<'a>
-    ensures { app_of result ≡ top_app }
-{
-    Command::new(alloc, "tqd")
-        .about(ABOUT)
-        .after_help(FIRST)
-        .version("0.1.0")
-        .subcommand_required(true)
-        .disable_help_subcommand(true)
+    top_command(alloc, "tqd", ABOUT, FIRST).subcommand(rehearse)
 }
 
 /// `rehearse FILE`.
@@ -238,12 +226,10 @@ fn rehearse_command<'a>(alloc: Global) -> Result<Command<'a>, AllocError>
     ensures app { IfOk result (λ command. app_of command ≡ rehearse_app) }
     ensures local { IfOk result (λ command. (out-Command command).has_globals ≡ false) }
 {
-    Command::new(alloc, "rehearse")
-        .about("Answers lines over the journals of a file")
+    let help = "A journal file, as tq threads prints it";
+    bare_command(alloc, "rehearse", ABOUT_REHEARSAL, SHORT_REHEARSALS, REHEARSALS)
         .override_usage("tqd rehearse FILE < LINES")
-        .after_help(SHORT_REHEARSALS)
-        .after_long_help(REHEARSALS)
-        .arg(file_argument(alloc))
+        .arg(set_argument(alloc, "file", "FILE", help, true))
 }
 
 /// `server S`, with the options of a part.
@@ -279,35 +265,18 @@ fn part_with_log<'a>(
     ensures app { IfOk result (λ command. app_of command ≡ part_app_with_log name.entry.now) }
     ensures local { IfOk result (λ command. (out-Command command).has_globals ≡ false) }
 {
-    let command = Command::new(alloc, name)
-        .about(about)
+    let command = bare_command(alloc, name, about, SHORT_HOSTS, HOSTS)
         .override_usage(usage)
-        .after_help(SHORT_HOSTS)
-        .after_long_help(HOSTS)
         .arg(levels_argument(alloc))?;
     command.arg(log_argument(alloc))
-}
-
-fn file_argument<'a>(alloc: Global) -> Arg<'a>
-    ensures rule { rule_of result ≡ file_rule }
-    ensures local { result.global ≡ false }
-{
-    Arg::new(alloc, "file")
-        .value_name("FILE")
-        .help("A journal file, as tq threads prints it")
-        .required(true)
-        .action(ArgAction::Set)
 }
 
 fn server_argument<'a>(alloc: Global) -> Arg<'a>
     ensures rule { rule_of result ≡ server_rule }
     ensures local { result.global ≡ false }
 {
-    Arg::new(alloc, "server")
-        .value_name("S")
-        .help("The number of the server, 1 to 2^N - 1")
-        .required(true)
-        .action(ArgAction::Set)
+    let help = "The number of the server, 1 to 2^N - 1";
+    set_argument(alloc, "server", "S", help, true)
         .value_parser(clap::value_parser!(u32).range(1..=1_023))
 }
 
@@ -315,25 +284,22 @@ fn log_argument<'a>(alloc: Global) -> Arg<'a>
     ensures rule { rule_of result ≡ log_rule }
     ensures local { result.global ≡ false }
 {
-    Arg::new(alloc, "log")
-        .long("log")
-        .value_name("FILE")
-        .help("The file of its log, which is made where it is missing")
-        .required(true)
-        .action(ArgAction::Set)
+    let help = "The file of its log, which is made where it is missing";
+    set_argument(alloc, "log", "FILE", help, true).long("log")
 }
 
 fn limits_argument<'a>(alloc: Global) -> Arg<'a>
     ensures rule { rule_of result ≡ limits_rule }
     ensures local { result.global ≡ false }
 {
-    Arg::new(alloc, "limits")
+    let help = "The most of each, 1 up to 1000 64 1000000 (the default)";
+    set_argument(alloc, "limits", "LIMIT", help, false)
         .long("limits")
         .value_names(&["FILES", "OPS", "ENTRIES"])
-        .help("The most of each, 1 up to 1000 64 1000000 (the default)")
-        .action(ArgAction::Set)
         .value_parser(clap::value_parser!(u32).range(1..=1_000_000))
 }
+
+const ABOUT_REHEARSAL: &str = "Answers lines over the journals of a file";
 
 const ABOUT: &str = "\
 Runs a part of a system as a process with a durable log, or answers lines over
