@@ -1,9 +1,9 @@
 //! The subcommands, their words and their help.
 
-ghost use Rattle.std.specs.Prelude.{◌≡◌, IfOk, None, false, codes};
+ghost use Rattle.std.specs.Prelude.{◌≡◌, IfOk, None, Some, false, codes};
 ghost use Rattle.clap.specs.Words.{app_of, found_of, new_app, rows_of, rule_of};
 ghost use Rattle.clap.specs.declared.builder.command.Command.TheViews.{out-Command};
-ghost use Rattle.tq_cli.specs.Command.{HasNumber, IsGiven, IsGivenOrZero, MayHaveNumber, app_with_audit, app_with_shell, app_with_threads, audit_app, levels_rule, rounds_rule, set_rule, shell_app, threads_app, threads_app_with_levels, threads_app_with_workers, top_app, tq_app, upgrade_app, workers_rule};
+ghost use Rattle.tq_cli.specs.Command.{HasNumber, IsGiven, IsGivenOrZero, MayHaveNumber, app_with_audit, app_with_shell, app_with_threads, levels_rule, rounds_rule, set_rule, shell_app, threads_app, threads_app_with_levels, threads_app_with_workers, top_app, tq_app, workers_rule};
 
 use clap::error::ErrorKind;
 use clap::{Arg, ArgAction, ArgMatches, Command, Error};
@@ -156,7 +156,15 @@ fn tq_command<'a>(alloc: Global) -> Result<Command<'a>, AllocError>
     ensures { IfOk result (λ command. app_of command ≡ tq_app) }
 {
     let command = command_with_audit(alloc)?;
-    command.subcommand(upgrade_command(alloc))
+    let usage = "tq upgrade < FILE > NEW";
+    command.subcommand(used_command(
+        alloc,
+        "upgrade",
+        usage,
+        ABOUT_UPGRADE,
+        SHORT_UPGRADES,
+        UPGRADES,
+    ))
 }
 
 /// The program with the subcommands `shell`, `threads` and `audit`.
@@ -164,7 +172,15 @@ fn command_with_audit<'a>(alloc: Global) -> Result<Command<'a>, AllocError>
     ensures { IfOk result (λ command. app_of command ≡ app_with_audit) }
 {
     let command = command_with_threads(alloc)?;
-    command.subcommand(audit_command(alloc))
+    let usage = "tq audit < FILE";
+    command.subcommand(used_command(
+        alloc,
+        "audit",
+        usage,
+        ABOUT_AUDIT,
+        SHORT_AUDITS,
+        AUDITS,
+    ))
 }
 
 /// The program with the subcommands `shell` and `threads`.
@@ -219,6 +235,21 @@ pub(crate) fn bare_command<'a>(
         .after_long_help(long)
 }
 
+/// The same with a usage of its own.
+pub(crate) fn used_command<'a>(
+    alloc: Global,
+    name: &'a str,
+    usage: &'a str,
+    about: &'a str,
+    short: &'a str,
+    long: &'a str,
+) -> Command<'a>
+    ensures app { app_of result ≡ new_app name.entry.now }
+    ensures local { (out-Command result).has_globals ≡ false }
+{
+    bare_command(alloc, name, about, short, long).override_usage(usage)
+}
+
 /// `shell --levels N`.
 fn shell_command<'a>(alloc: Global) -> Result<Command<'a>, AllocError>
     ensures app { IfOk result (λ command. app_of command ≡ shell_app) }
@@ -255,24 +286,6 @@ fn threads_with_levels<'a>(alloc: Global) -> Result<Command<'a>, AllocError>
     command.arg(levels_argument(alloc))
 }
 
-/// `audit`.
-fn audit_command<'a>(alloc: Global) -> Command<'a>
-    ensures app { app_of result ≡ audit_app }
-    ensures local { (out-Command result).has_globals ≡ false }
-{
-    bare_command(alloc, "audit", ABOUT_AUDIT, SHORT_AUDITS, AUDITS)
-        .override_usage("tq audit < FILE")
-}
-
-/// `upgrade`.
-fn upgrade_command<'a>(alloc: Global) -> Command<'a>
-    ensures app { app_of result ≡ upgrade_app }
-    ensures local { (out-Command result).has_globals ≡ false }
-{
-    bare_command(alloc, "upgrade", ABOUT_UPGRADE, SHORT_UPGRADES, UPGRADES)
-        .override_usage("tq upgrade < FILE > NEW")
-}
-
 /// An argument that is given a value, which help calls by that name.
 pub(crate) fn set_argument<'a>(
     alloc: Global,
@@ -291,12 +304,31 @@ pub(crate) fn set_argument<'a>(
         .action(ArgAction::Set)
 }
 
+/// An option that is given a value, which help calls by that name.
+pub(crate) fn option_argument<'a>(
+    alloc: Global,
+    id: &'a str,
+    name: &'a str,
+    help: &'a str,
+    required: bool,
+) -> Arg<'a>
+    ensures rule { rule_of result ≡ set_rule id.entry.now (Some id.entry.now) 1 None required }
+    ensures local { result.global ≡ false }
+{
+    Arg::new(alloc, id)
+        .long(id)
+        .value_name(name)
+        .help(help)
+        .required(required)
+        .action(ArgAction::Set)
+}
+
 pub(crate) fn levels_argument<'a>(alloc: Global) -> Arg<'a>
     ensures rule { rule_of result ≡ levels_rule }
     ensures local { result.global ≡ false }
 {
-    set_argument(alloc, "levels", "N", "The levels of the tree, 1 to 10", true)
-        .long("levels")
+    let help = "The levels of the tree, 1 to 10";
+    option_argument(alloc, "levels", "N", help, true)
         .value_parser(clap::value_parser!(u32).range(1..=10))
 }
 
@@ -305,8 +337,7 @@ fn workers_argument<'a>(alloc: Global) -> Arg<'a>
     ensures local { result.global ≡ false }
 {
     let help = "Threads that mend stale copies, 0 to 2 (default 0)";
-    set_argument(alloc, "workers", "W", help, false)
-        .long("workers")
+    option_argument(alloc, "workers", "W", help, false)
         .value_parser(clap::value_parser!(u32).range(0..=2))
 }
 
@@ -315,8 +346,7 @@ fn rounds_argument<'a>(alloc: Global) -> Arg<'a>
     ensures local { result.global ≡ false }
 {
     let help = "How often they look for such copies, 0 to 1000 (default 0)";
-    set_argument(alloc, "rounds", "R", help, false)
-        .long("rounds")
+    option_argument(alloc, "rounds", "R", help, false)
         .value_parser(clap::value_parser!(u32).range(0..=1_000))
 }
 
