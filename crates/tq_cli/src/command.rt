@@ -1,6 +1,6 @@
 //! The subcommands, their words and their help.
 
-ghost use Rattle.std.specs.Prelude.{◌≡◌, IfOk, None, Some, false, codes};
+ghost use Rattle.std.specs.Prelude.{◌≡◌, IfOk, None, false, codes};
 ghost use Rattle.clap.specs.Words.{app_of, found_of, new_app, rows_of, rule_of};
 ghost use Rattle.clap.specs.declared.builder.command.Command.TheViews.{out-Command};
 ghost use Rattle.tq_cli.specs.Command.{HasNumber, IsGiven, IsGivenOrZero, MayHaveNumber, app_with_audit, app_with_shell, app_with_threads, levels_rule, rounds_rule, set_rule, shell_app, threads_app, threads_app_with_levels, threads_app_with_workers, top_app, tq_app, workers_rule};
@@ -157,14 +157,8 @@ fn tq_command<'a>(alloc: Global) -> Result<Command<'a>, AllocError>
 {
     let command = command_with_audit(alloc)?;
     let usage = "tq upgrade < FILE > NEW";
-    command.subcommand(used_command(
-        alloc,
-        "upgrade",
-        usage,
-        ABOUT_UPGRADE,
-        SHORT_UPGRADES,
-        UPGRADES,
-    ))
+    let upgrade = used_command(alloc, "upgrade", usage, ABOUT_UPGRADE, SHORT_UPGRADES, UPGRADES);
+    command.subcommand(upgrade)
 }
 
 /// The program with the subcommands `shell`, `threads` and `audit`.
@@ -173,14 +167,8 @@ fn command_with_audit<'a>(alloc: Global) -> Result<Command<'a>, AllocError>
 {
     let command = command_with_threads(alloc)?;
     let usage = "tq audit < FILE";
-    command.subcommand(used_command(
-        alloc,
-        "audit",
-        usage,
-        ABOUT_AUDIT,
-        SHORT_AUDITS,
-        AUDITS,
-    ))
+    let audit = used_command(alloc, "audit", usage, ABOUT_AUDIT, SHORT_AUDITS, AUDITS);
+    command.subcommand(audit)
 }
 
 /// The program with the subcommands `shell` and `threads`.
@@ -304,31 +292,13 @@ pub(crate) fn set_argument<'a>(
         .action(ArgAction::Set)
 }
 
-/// An option that is given a value, which help calls by that name.
-pub(crate) fn option_argument<'a>(
-    alloc: Global,
-    id: &'a str,
-    name: &'a str,
-    help: &'a str,
-    required: bool,
-) -> Arg<'a>
-    ensures rule { rule_of result ≡ set_rule id.entry.now (Some id.entry.now) 1 None required }
-    ensures local { result.global ≡ false }
-{
-    Arg::new(alloc, id)
-        .long(id)
-        .value_name(name)
-        .help(help)
-        .required(required)
-        .action(ArgAction::Set)
-}
-
 pub(crate) fn levels_argument<'a>(alloc: Global) -> Arg<'a>
     ensures rule { rule_of result ≡ levels_rule }
     ensures local { result.global ≡ false }
 {
     let help = "The levels of the tree, 1 to 10";
-    option_argument(alloc, "levels", "N", help, true)
+    set_argument(alloc, "levels", "N", help, true)
+        .long("levels")
         .value_parser(clap::value_parser!(u32).range(1..=10))
 }
 
@@ -337,7 +307,8 @@ fn workers_argument<'a>(alloc: Global) -> Arg<'a>
     ensures local { result.global ≡ false }
 {
     let help = "Threads that mend stale copies, 0 to 2 (default 0)";
-    option_argument(alloc, "workers", "W", help, false)
+    set_argument(alloc, "workers", "W", help, false)
+        .long("workers")
         .value_parser(clap::value_parser!(u32).range(0..=2))
 }
 
@@ -346,7 +317,8 @@ fn rounds_argument<'a>(alloc: Global) -> Arg<'a>
     ensures local { result.global ≡ false }
 {
     let help = "How often they look for such copies, 0 to 1000 (default 0)";
-    option_argument(alloc, "rounds", "R", help, false)
+    set_argument(alloc, "rounds", "R", help, false)
+        .long("rounds")
         .value_parser(clap::value_parser!(u32).range(0..=1_000))
 }
 

@@ -3,9 +3,9 @@ ghost use Rattle.std.specs.Prelude.{◌≡◌, ℕ, IfOk, IfErr, Some, codes, dr
 ghost use Rattle.clap.specs.Words.{app_of, found_of, many_of, rows_of, rule_of, subcommand_rows_of, values_left};
 ghost use Rattle.clap.specs.declared.builder.command.Command.TheViews.{out-Command};
 ghost use Rattle.tq_cli.specs.Command.{HasNumber, IsGiven, IsRefused, texts_of};
-ghost use Rattle.tq_cli.specs.TqdWords.{AreLimits, AreOptions, AsksFor, CanAsk, CanAskLast, CanAskPart, CanBePart, HasLimit, HasLimits, HasText, IsRead, IsText, app_with_desk, app_with_rehearsal, app_with_server, first_number, limits_rule, part_app, part_app_with_log, rehearse_app, server_app, server_rule, tqd_app};
+ghost use Rattle.tq_cli.specs.TqdWords.{AreLimits, AreOptions, AsksFor, CanAsk, CanAskLast, CanAskPart, CanBePart, HasLimit, HasLimits, HasText, IsRead, IsText, app_with_desk, app_with_rehearsal, app_with_server, first_number, limits_rule, log_rule, part_app, part_app_with_log, rehearse_app, server_app, server_rule, tqd_app};
 
-use crate::command::{WordsFault, levels_argument, levels_of, option_argument, set_argument, top_command, used_command};
+use crate::command::{WordsFault, levels_argument, levels_of, set_argument, top_command, used_command};
 use clap::parser::ValuesRef;
 use clap::{Arg, ArgMatches, Command};
 use std::alloc::{AllocError, Global};
@@ -227,16 +227,9 @@ fn rehearse_command<'a>(alloc: Global) -> Result<Command<'a>, AllocError>
     ensures local { IfOk result (λ command. (out-Command command).has_globals ≡ false) }
 {
     let usage = "tqd rehearse FILE < LINES";
-    let command = used_command(
-        alloc,
-        "rehearse",
-        usage,
-        ABOUT_REHEARSAL,
-        SHORT_REHEARSALS,
-        REHEARSALS,
-    );
     let help = "A journal file, as tq threads prints it";
-    command.arg(set_argument(alloc, "file", "FILE", help, true))
+    used_command(alloc, "rehearse", usage, ABOUT_FILE, SHORT_REHEARSALS, REHEARSALS)
+        .arg(set_argument(alloc, "file", "FILE", help, true))
 }
 
 /// `server S`, with the options of a part.
@@ -274,8 +267,7 @@ fn part_with_log<'a>(
 {
     let command = used_command(alloc, name, usage, about, SHORT_HOSTS, HOSTS)
         .arg(levels_argument(alloc))?;
-    let help = "The file of its log, which is made where it is missing";
-    command.arg(option_argument(alloc, "log", "FILE", help, true))
+    command.arg(log_argument(alloc))
 }
 
 fn server_argument<'a>(alloc: Global) -> Arg<'a>
@@ -287,17 +279,26 @@ fn server_argument<'a>(alloc: Global) -> Arg<'a>
         .value_parser(clap::value_parser!(u32).range(1..=1_023))
 }
 
+fn log_argument<'a>(alloc: Global) -> Arg<'a>
+    ensures rule { rule_of result ≡ log_rule }
+    ensures local { result.global ≡ false }
+{
+    let help = "The file of its log, which is made where it is missing";
+    set_argument(alloc, "log", "FILE", help, true).long("log")
+}
+
 fn limits_argument<'a>(alloc: Global) -> Arg<'a>
     ensures rule { rule_of result ≡ limits_rule }
     ensures local { result.global ≡ false }
 {
     let help = "The most of each, 1 up to 1000 64 1000000 (the default)";
-    option_argument(alloc, "limits", "LIMIT", help, false)
+    set_argument(alloc, "limits", "LIMIT", help, false)
+        .long("limits")
         .value_names(&["FILES", "OPS", "ENTRIES"])
         .value_parser(clap::value_parser!(u32).range(1..=1_000_000))
 }
 
-const ABOUT_REHEARSAL: &str = "Answers lines over the journals of a file";
+const ABOUT_FILE: &str = "Answers lines over the journals of a file";
 
 const ABOUT: &str = "\
 Runs a part of a system as a process with a durable log, or answers lines over
