@@ -157,7 +157,8 @@ fn tq_command<'a>(alloc: Global) -> Result<Command<'a>, AllocError>
 {
     let command = command_with_audit(alloc)?;
     let usage = "tq upgrade < FILE > NEW";
-    let upgrade = used_command(alloc, "upgrade", usage, ABOUT_UPGRADE, SHORT_UPGRADES, UPGRADES);
+    let about = "Reads a journal file of any format and writes it in the newest";
+    let upgrade = used_command(alloc, "upgrade", usage, about, SHORT_UPGRADES, UPGRADES);
     command.subcommand(upgrade)
 }
 
@@ -167,7 +168,8 @@ fn command_with_audit<'a>(alloc: Global) -> Result<Command<'a>, AllocError>
 {
     let command = command_with_threads(alloc)?;
     let usage = "tq audit < FILE";
-    let audit = used_command(alloc, "audit", usage, ABOUT_AUDIT, SHORT_AUDITS, AUDITS);
+    let about = "Reads a journal file and says whether one run explains it";
+    let audit = used_command(alloc, "audit", usage, about, SHORT_AUDITS, AUDITS);
     command.subcommand(audit)
 }
 
@@ -243,7 +245,8 @@ fn shell_command<'a>(alloc: Global) -> Result<Command<'a>, AllocError>
     ensures app { IfOk result (λ command. app_of command ≡ shell_app) }
     ensures local { IfOk result (λ command. (out-Command command).has_globals ≡ false) }
 {
-    let command = bare_command(alloc, "shell", ABOUT_SHELL, SHORT_LINES, LINES);
+    let about = "Reads lines from standard input and answers each";
+    let command = bare_command(alloc, "shell", about, SHORT_LINES, LINES);
     command.arg(levels_argument(alloc))
 }
 
@@ -270,7 +273,8 @@ fn threads_with_levels<'a>(alloc: Global) -> Result<Command<'a>, AllocError>
     ensures app { IfOk result (λ command. app_of command ≡ threads_app_with_levels) }
     ensures local { IfOk result (λ command. (out-Command command).has_globals ≡ false) }
 {
-    let command = bare_command(alloc, "threads", ABOUT_THREADS, SHORT_SCRIPTS, SCRIPTS);
+    let about = "Reads scripts of clients from standard input and runs them in threads";
+    let command = bare_command(alloc, "threads", about, SHORT_SCRIPTS, SCRIPTS);
     command.arg(levels_argument(alloc))
 }
 
@@ -321,15 +325,6 @@ fn rounds_argument<'a>(alloc: Global) -> Arg<'a>
         .long("rounds")
         .value_parser(clap::value_parser!(u32).range(0..=1_000))
 }
-
-const ABOUT_SHELL: &str = "Reads lines from standard input and answers each";
-
-const ABOUT_THREADS: &str =
-    "Reads scripts of clients from standard input and runs them in threads";
-
-const ABOUT_AUDIT: &str = "Reads a journal file and says whether one run explains it";
-
-const ABOUT_UPGRADE: &str = "Reads a journal file of any format and writes it in the newest";
 
 const ABOUT: &str = "\
 Keeps whole files in copies on the servers of a tree, and runs transactions

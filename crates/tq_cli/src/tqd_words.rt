@@ -5,7 +5,9 @@ ghost use Rattle.clap.specs.declared.builder.command.Command.TheViews.{out-Comma
 ghost use Rattle.tq_cli.specs.Command.{HasNumber, IsGiven, IsRefused, texts_of};
 ghost use Rattle.tq_cli.specs.TqdWords.{AreLimits, AreOptions, AsksFor, CanAsk, CanAskLast, CanAskPart, CanBePart, HasLimit, HasLimits, HasText, IsRead, IsText, app_with_desk, app_with_rehearsal, app_with_server, first_number, limits_rule, log_rule, part_app, part_app_with_log, rehearse_app, server_app, server_rule, tqd_app};
 
-use crate::command::{WordsFault, levels_argument, levels_of, set_argument, top_command, used_command};
+use crate::command::{
+    WordsFault, levels_argument, levels_of, set_argument, top_command, used_command,
+};
 use clap::parser::ValuesRef;
 use clap::{Arg, ArgMatches, Command};
 use std::alloc::{AllocError, Global};
@@ -227,9 +229,10 @@ fn rehearse_command<'a>(alloc: Global) -> Result<Command<'a>, AllocError>
     ensures local { IfOk result (λ command. (out-Command command).has_globals ≡ false) }
 {
     let usage = "tqd rehearse FILE < LINES";
+    let about = "Answers lines over the journals of a file";
+    let command = used_command(alloc, "rehearse", usage, about, SHORT_REHEARSAL, REHEARSAL);
     let help = "A journal file, as tq threads prints it";
-    used_command(alloc, "rehearse", usage, ABOUT_FILE, SHORT_REHEARSALS, REHEARSALS)
-        .arg(set_argument(alloc, "file", "FILE", help, true))
+    command.arg(set_argument(alloc, "file", "FILE", help, true))
 }
 
 /// `server S`, with the options of a part.
@@ -265,8 +268,8 @@ fn part_with_log<'a>(
     ensures app { IfOk result (λ command. app_of command ≡ part_app_with_log name.entry.now) }
     ensures local { IfOk result (λ command. (out-Command command).has_globals ≡ false) }
 {
-    let command = used_command(alloc, name, usage, about, SHORT_HOSTS, HOSTS)
-        .arg(levels_argument(alloc))?;
+    let command = used_command(alloc, name, usage, about, SHORT_HOSTS, HOSTS);
+    let command = command.arg(levels_argument(alloc))?;
     command.arg(log_argument(alloc))
 }
 
@@ -275,8 +278,8 @@ fn server_argument<'a>(alloc: Global) -> Arg<'a>
     ensures local { result.global ≡ false }
 {
     let help = "The number of the server, 1 to 2^N - 1";
-    set_argument(alloc, "server", "S", help, true)
-        .value_parser(clap::value_parser!(u32).range(1..=1_023))
+    let parser = clap::value_parser!(u32).range(1..=1_023);
+    set_argument(alloc, "server", "S", help, true).value_parser(parser)
 }
 
 fn log_argument<'a>(alloc: Global) -> Arg<'a>
@@ -297,8 +300,6 @@ fn limits_argument<'a>(alloc: Global) -> Arg<'a>
         .value_names(&["FILES", "OPS", "ENTRIES"])
         .value_parser(clap::value_parser!(u32).range(1..=1_000_000))
 }
-
-const ABOUT_FILE: &str = "Answers lines over the journals of a file";
 
 const ABOUT: &str = "\
 Runs a part of a system as a process with a durable log, or answers lines over
@@ -360,7 +361,7 @@ file that can be read, written and synced), fault read, fault write, fault
 memory, or fault too long (more than 67108864 bytes of an ask); 2 where the
 words of the command are refused.";
 
-const SHORT_REHEARSALS: &str = "\
+const SHORT_REHEARSAL: &str = "\
 The lines are those of tq shell (tq shell --help explains them), read from
 standard input. Where no one run explains the journals no line is read, and what
 tq audit says of them is printed, with its status:
@@ -369,7 +370,7 @@ tq audit says of them is printed, with its status:
   unreadable                  4  it is no journal file
   fault ..                    1  want of memory, a failed device, too long";
 
-const REHEARSALS: &str = "\
+const REHEARSAL: &str = "\
 The journals of a system are those of all its parts: FILE is of format 1 or 2,
 from whoever wrote it. Where one run explains them, a service that has taken
 them answers the lines of tq shell (tq shell --help explains these), read from
