@@ -173,6 +173,22 @@ rows_found name Holds found rows is named =
     let equal : is.0 ≡ rows = cc in
     subst Holds equal is.2
 
+-- what was found under that name, with such rows
+pub found_as : (name : Text) (Holds : List Row → Type 0) (found : Option (Text × List Row)) (rows : List Row) → option_map (λ (p : Text × List Row). p.0) found ≡ Some name → option_map (λ (p : Text × List Row). p.1) found ≡ Some rows → Holds rows → IsFound name Holds found
+found_as name Holds None rows named is holds = absurd cc
+found_as name Holds (Some p) rows named is holds =
+    let same : p.0 ≡ name = cc in
+    let equal : p.1 ≡ rows = cc in
+    let first : Some p ≡ Some (name, p.1) = subst (λ (n : Text). Some p ≡ Some (n, p.1)) same refl in
+    (rows, subst (λ (r : List Row). Some p ≡ Some (name, r)) equal first, holds)
+
+-- where nothing was found under that name, it was found otherwise
+pub found_else : (name : Text) (Holds : List Row → Type 0) (Other : Type 0) (found : Option (Text × List Row)) → IsFound name Holds found ⊎ Other → (option_map (λ (p : Text × List Row). p.0) found ≡ Some name → ⊥) → Other
+found_else name Holds Other found can unnamed = elim can [
+  | inl here ↦ absurd (unnamed (ap (option_map (λ (p : Text × List Row). p.0)) here.1))
+  | inr other ↦ other
+]
+
 abbrev pub first_byte : Option Text → ℕ
 first_byte None = 0
 first_byte (Some text) = get_or text 0 0

@@ -15,7 +15,7 @@ use Rattle.clap.specs.declared.builder.value_parser.Reading.TheVariants.{AsWritt
 use Rattle.clap.specs.declared.builder.value_parser.ValueParser.{ValueParser}
 use Rattle.clap.specs.declared.builder.value_parser.ValueParser.TheVariants as vp
 use Rattle.clap.proofs.ValueTestLemmas.{accepts-Accepts}
-use Rattle.tq_cli.specs.TqdWords.{CanAsk, CanAskPart, CanBePart, CanBeServer, HasLimit, HasLimits, HasText, part_app, rehearse_app, server_app, tqd_app}
+use Rattle.tq_cli.specs.TqdWords.{CanAsk, CanAskLast, CanAskPart, CanBePart, CanBeServer, HasLimit, HasLimits, HasText, part_app, rehearse_app, server_app, tqd_app}
 use Rattle.tq_cli.proofs.ParseLaws.{Each, Keeps, both_none, level_kept}
 use Rattle.tq_cli.proofs.RuleLaws.{AreNamed, IsClean, help_keeps, other_keeps, row_given, row_or_none, rows_found, not_found, none_asks, set_keeps, some_kind, sub_by, taken, first_byte}
 use Rattle.tq_cli.proofs.CommandLaws.{AreRanged, given_by, level_clean, number_given, number_help, number_keeps, number_other, numbers, passed_by, wanted_by}
@@ -218,4 +218,18 @@ server_rows found rows can name is = elim can [
     | inl desk ↦ absurd (not_found (codes "desk") (codes "server") CanBePart found (λ (e : first_byte (Some (codes "desk")) ≡ first_byte (Some (codes "server"))). omega (arith, e)) desk name)
     | inr view ↦ absurd (not_found (codes "view") (codes "server") CanBePart found (λ (e : first_byte (Some (codes "view")) ≡ first_byte (Some (codes "server"))). omega (arith, e)) view name)
   ]
+]
+
+-- and those of the desk or the view
+pub last_rows : (found : Option (Text × List Row)) (rows : List Row) → CanAskLast found → option_map (λ (p : Text × List Row). p.1) found ≡ Some rows → CanBePart rows
+last_rows found rows can is = elim can [
+  | inl desk ↦ rows_found (codes "desk") CanBePart found rows desk is
+  | inr view ↦ rows_found (codes "view") CanBePart found rows view is
+]
+
+-- one of the two was found
+pub no_other : (found : Option (Text × List Row)) (name : Option Text) → CanAskLast found → option_map (λ (p : Text × List Row). p.0) found ≡ name → (name ≡ Some (codes "desk") → ⊥) → (name ≡ Some (codes "view") → ⊥) → ⊥
+no_other found name can is no_desk no_view = elim can [
+  | inl desk ↦ no_desk (sym is ∙ ap (option_map (λ (p : Text × List Row). p.0)) desk.1)
+  | inr view ↦ no_view (sym is ∙ ap (option_map (λ (p : Text × List Row). p.0)) view.1)
 ]

@@ -57,13 +57,13 @@ audit_app = new_app (codes "audit")
 abbrev pub upgrade_app : App
 upgrade_app = new_app (codes "upgrade")
 
--- the program without its subcommands, of which one is wanted
-abbrev pub top_app : App
-top_app = on_top (λ top. record top { has_version = true; disable_help_subcommand = true; subcommand_required = true }) (new_app (codes "tq"))
+-- a program without its subcommands, of which one is wanted
+abbrev pub top_app : Text → App
+top_app name = on_top (λ top. record top { has_version = true; disable_help_subcommand = true; subcommand_required = true }) (new_app name)
 
 -- the program with its first subcommand alone
 abbrev pub app_with_shell : App
-app_with_shell = with_subcommand top_app shell_app.top
+app_with_shell = with_subcommand (top_app (codes "tq")) shell_app.top
 
 -- the program with its first two subcommands
 abbrev pub app_with_threads : App

@@ -2,10 +2,9 @@
 use Rattle.std.specs.Prelude.{◌≡◌, ◌⊎◌, ℕ, true, false, List, ◌∷◌, [], Option, Some, None, pos, codes, drop, option_map, slice_get, unwrap_or}
 use Rattle.std.specs.Str.Parse.{digits_value, without_leading_plus}
 use Rattle.clap.specs.Words.{App, IsSignedIn, Row, Rule, Text, fault_of, many_of, new_app, subcommand_of, with_rule, with_subcommand, without_minus}
-use Rattle.clap.specs.Simple.{on_top}
 use Rattle.clap.specs.Walk.{first_of}
 use Rattle.clap.specs.declared.builder.value_parser.ValueParser.TheVariants as vp
-use Rattle.tq_cli.specs.Command.{HasNumber, IsFound, IsGiven, levels_rule, set_rule}
+use Rattle.tq_cli.specs.Command.{HasNumber, IsFound, IsGiven, levels_rule, set_rule, top_app}
 use Rattle.tq_cli.specs.declared.tqd_words.GivenLimits.{GivenLimits}
 use Rattle.tq_cli.specs.declared.tqd_words.PartOptions.{PartOptions}
 use Rattle.tq_cli.specs.declared.tqd_words.TqdWords.{TqdWords}
@@ -43,13 +42,9 @@ part_app name = with_rule (part_app_with_log name) limits_rule
 abbrev pub server_app : App
 server_app = with_rule (part_app (codes "server")) server_rule
 
--- the program without its subcommands, of which one is wanted
-abbrev pub top_app : App
-top_app = on_top (λ top. record top { has_version = true; disable_help_subcommand = true; subcommand_required = true }) (new_app (codes "tqd"))
-
 -- the program with its first subcommand alone
 abbrev pub app_with_rehearsal : App
-app_with_rehearsal = with_subcommand top_app rehearse_app.top
+app_with_rehearsal = with_subcommand (top_app (codes "tqd")) rehearse_app.top
 
 -- the program with its first two subcommands
 abbrev pub app_with_server : App

@@ -1,9 +1,9 @@
 //! The subcommands, their words and their help.
 
-ghost use Rattle.std.specs.Prelude.{◌≡◌, IfOk, false, codes};
-ghost use Rattle.clap.specs.Words.{app_of, found_of, rows_of, rule_of};
+ghost use Rattle.std.specs.Prelude.{◌≡◌, IfOk, None, false, codes};
+ghost use Rattle.clap.specs.Words.{app_of, found_of, new_app, rows_of, rule_of};
 ghost use Rattle.clap.specs.declared.builder.command.Command.TheViews.{out-Command};
-ghost use Rattle.tq_cli.specs.Command.{HasNumber, IsGiven, IsGivenOrZero, MayHaveNumber, app_with_audit, app_with_shell, app_with_threads, audit_app, levels_rule, rounds_rule, shell_app, threads_app, threads_app_with_levels, threads_app_with_workers, top_app, tq_app, upgrade_app, workers_rule};
+ghost use Rattle.tq_cli.specs.Command.{HasNumber, IsGiven, IsGivenOrZero, MayHaveNumber, app_with_audit, app_with_shell, app_with_threads, levels_rule, rounds_rule, set_rule, shell_app, threads_app, threads_app_with_levels, threads_app_with_workers, top_app, tq_app, workers_rule};
 
 use clap::error::ErrorKind;
 use clap::{Arg, ArgAction, ArgMatches, Command, Error};
@@ -156,7 +156,10 @@ fn tq_command<'a>(alloc: Global) -> Result<Command<'a>, AllocError>
     ensures { IfOk result (λ command. app_of command ≡ tq_app) }
 {
     let command = command_with_audit(alloc)?;
-    command.subcommand(upgrade_command(alloc))
+    let usage = "tq upgrade < FILE > NEW";
+    let about = "Reads a journal file of any format and writes it in the newest";
+    let upgrade = used_command(alloc, "upgrade", usage, about, SHORT_UPGRADES, UPGRADES);
+    command.subcommand(upgrade)
 }
 
 /// The program with the subcommands `shell`, `threads` and `audit`.
@@ -164,7 +167,10 @@ fn command_with_audit<'a>(alloc: Global) -> Result<Command<'a>, AllocError>
     ensures { IfOk result (λ command. app_of command ≡ app_with_audit) }
 {
     let command = command_with_threads(alloc)?;
-    command.subcommand(audit_command(alloc))
+    let usage = "tq audit < FILE";
+    let about = "Reads a journal file and says whether one run explains it";
+    let audit = used_command(alloc, "audit", usage, about, SHORT_AUDITS, AUDITS);
+    command.subcommand(audit)
 }
 
 /// The program with the subcommands `shell` and `threads`.
@@ -181,20 +187,57 @@ fn command_with_shell<'a>(alloc: Global) -> Result<Command<'a>, AllocError>
     ensures { IfOk result (λ command. app_of command ≡ app_with_shell) }
 {
     let shell = shell_command(alloc)?;
-    top_command(alloc).subcommand(shell)
+    let top = top_command(alloc, "tq", ABOUT, FIRST).long_about(TREE);
+    top.subcommand(shell)
 }
 
-/// The program without its subcommands.
-fn top_command<'a>(alloc: Global) -> Command<'a>
-    ensures { app_of result ≡ top_app }
+/// A program of that name without its subcommands.
+pub(crate) fn top_command<'a>(
+    alloc: Global,
+    name: &'a str,
+    about: &'a str,
+    first: &'a str,
+) -> Command<'a>
+    ensures { app_of result ≡ top_app name.entry.now }
 {
-    Command::new(alloc, "tq")
-        .about(ABOUT)
-        .long_about(TREE)
-        .after_help(FIRST)
+    Command::new(alloc, name)
+        .about(about)
+        .after_help(first)
         .version("0.1.0")
         .subcommand_required(true)
         .disable_help_subcommand(true)
+}
+
+/// A subcommand of that name with its help, and no arguments.
+pub(crate) fn bare_command<'a>(
+    alloc: Global,
+    name: &'a str,
+    about: &'a str,
+    short: &'a str,
+    long: &'a str,
+) -> Command<'a>
+    ensures app { app_of result ≡ new_app name.entry.now }
+    ensures local { (out-Command result).has_globals ≡ false }
+{
+    Command::new(alloc, name)
+        .about(about)
+        .after_help(short)
+        .after_long_help(long)
+}
+
+/// The same with a usage of its own.
+pub(crate) fn used_command<'a>(
+    alloc: Global,
+    name: &'a str,
+    usage: &'a str,
+    about: &'a str,
+    short: &'a str,
+    long: &'a str,
+) -> Command<'a>
+    ensures app { app_of result ≡ new_app name.entry.now }
+    ensures local { (out-Command result).has_globals ≡ false }
+{
+    bare_command(alloc, name, about, short, long).override_usage(usage)
 }
 
 /// `shell --levels N`.
@@ -202,11 +245,9 @@ fn shell_command<'a>(alloc: Global) -> Result<Command<'a>, AllocError>
     ensures app { IfOk result (λ command. app_of command ≡ shell_app) }
     ensures local { IfOk result (λ command. (out-Command command).has_globals ≡ false) }
 {
-    Command::new(alloc, "shell")
-        .about("Reads lines from standard input and answers each")
-        .after_help(SHORT_LINES)
-        .after_long_help(LINES)
-        .arg(levels_argument(alloc))
+    let about = "Reads lines from standard input and answers each";
+    let command = bare_command(alloc, "shell", about, SHORT_LINES, LINES);
+    command.arg(levels_argument(alloc))
 }
 
 /// `threads --levels N [--workers W] [--rounds R]`.
@@ -232,47 +273,36 @@ fn threads_with_levels<'a>(alloc: Global) -> Result<Command<'a>, AllocError>
     ensures app { IfOk result (λ command. app_of command ≡ threads_app_with_levels) }
     ensures local { IfOk result (λ command. (out-Command command).has_globals ≡ false) }
 {
-    Command::new(alloc, "threads")
-        .about("Reads scripts of clients from standard input and runs them in threads")
-        .after_help(SHORT_SCRIPTS)
-        .after_long_help(SCRIPTS)
-        .arg(levels_argument(alloc))
+    let about = "Reads scripts of clients from standard input and runs them in threads";
+    let command = bare_command(alloc, "threads", about, SHORT_SCRIPTS, SCRIPTS);
+    command.arg(levels_argument(alloc))
 }
 
-/// `audit`.
-fn audit_command<'a>(alloc: Global) -> Command<'a>
-    ensures app { app_of result ≡ audit_app }
-    ensures local { (out-Command result).has_globals ≡ false }
+/// An argument that is given a value, which help calls by that name.
+pub(crate) fn set_argument<'a>(
+    alloc: Global,
+    id: &'a str,
+    name: &'a str,
+    help: &'a str,
+    required: bool,
+) -> Arg<'a>
+    ensures rule { rule_of result ≡ set_rule id.entry.now None 1 None required }
+    ensures local { result.global ≡ false }
 {
-    Command::new(alloc, "audit")
-        .about("Reads a journal file and says whether one run explains it")
-        .override_usage("tq audit < FILE")
-        .after_help(SHORT_AUDITS)
-        .after_long_help(AUDITS)
-}
-
-/// `upgrade`.
-fn upgrade_command<'a>(alloc: Global) -> Command<'a>
-    ensures app { app_of result ≡ upgrade_app }
-    ensures local { (out-Command result).has_globals ≡ false }
-{
-    Command::new(alloc, "upgrade")
-        .about("Reads a journal file of any format and writes it in the newest")
-        .override_usage("tq upgrade < FILE > NEW")
-        .after_help(SHORT_UPGRADES)
-        .after_long_help(UPGRADES)
+    Arg::new(alloc, id)
+        .value_name(name)
+        .help(help)
+        .required(required)
+        .action(ArgAction::Set)
 }
 
 pub(crate) fn levels_argument<'a>(alloc: Global) -> Arg<'a>
     ensures rule { rule_of result ≡ levels_rule }
     ensures local { result.global ≡ false }
 {
-    Arg::new(alloc, "levels")
+    let help = "The levels of the tree, 1 to 10";
+    set_argument(alloc, "levels", "N", help, true)
         .long("levels")
-        .value_name("N")
-        .help("The levels of the tree, 1 to 10")
-        .required(true)
-        .action(ArgAction::Set)
         .value_parser(clap::value_parser!(u32).range(1..=10))
 }
 
@@ -280,11 +310,9 @@ fn workers_argument<'a>(alloc: Global) -> Arg<'a>
     ensures rule { rule_of result ≡ workers_rule }
     ensures local { result.global ≡ false }
 {
-    Arg::new(alloc, "workers")
+    let help = "Threads that mend stale copies, 0 to 2 (default 0)";
+    set_argument(alloc, "workers", "W", help, false)
         .long("workers")
-        .value_name("W")
-        .help("Threads that mend stale copies, 0 to 2 (default 0)")
-        .action(ArgAction::Set)
         .value_parser(clap::value_parser!(u32).range(0..=2))
 }
 
@@ -292,11 +320,9 @@ fn rounds_argument<'a>(alloc: Global) -> Arg<'a>
     ensures rule { rule_of result ≡ rounds_rule }
     ensures local { result.global ≡ false }
 {
-    Arg::new(alloc, "rounds")
+    let help = "How often they look for such copies, 0 to 1000 (default 0)";
+    set_argument(alloc, "rounds", "R", help, false)
         .long("rounds")
-        .value_name("R")
-        .help("How often they look for such copies, 0 to 1000 (default 0)")
-        .action(ArgAction::Set)
         .value_parser(clap::value_parser!(u32).range(0..=1_000))
 }
 

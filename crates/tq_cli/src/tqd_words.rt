@@ -3,11 +3,13 @@ ghost use Rattle.std.specs.Prelude.{◌≡◌, ℕ, IfOk, IfErr, Some, codes, dr
 ghost use Rattle.clap.specs.Words.{app_of, found_of, many_of, rows_of, rule_of, subcommand_rows_of, values_left};
 ghost use Rattle.clap.specs.declared.builder.command.Command.TheViews.{out-Command};
 ghost use Rattle.tq_cli.specs.Command.{HasNumber, IsGiven, IsRefused, texts_of};
-ghost use Rattle.tq_cli.specs.TqdWords.{AreLimits, AreOptions, AsksFor, CanAsk, CanAskLast, CanAskPart, CanBePart, HasLimit, HasLimits, HasText, IsRead, IsText, app_with_desk, app_with_rehearsal, app_with_server, file_rule, first_number, limits_rule, log_rule, part_app, part_app_with_log, rehearse_app, server_app, server_rule, top_app, tqd_app};
+ghost use Rattle.tq_cli.specs.TqdWords.{AreLimits, AreOptions, AsksFor, CanAsk, CanAskLast, CanAskPart, CanBePart, HasLimit, HasLimits, HasText, IsRead, IsText, app_with_desk, app_with_rehearsal, app_with_server, first_number, limits_rule, log_rule, part_app, part_app_with_log, rehearse_app, server_app, server_rule, tqd_app};
 
-use crate::command::{WordsFault, levels_argument, levels_of};
+use crate::command::{
+    WordsFault, levels_argument, levels_of, set_argument, top_command, used_command,
+};
 use clap::parser::ValuesRef;
-use clap::{Arg, ArgAction, ArgMatches, Command};
+use clap::{Arg, ArgMatches, Command};
 use std::alloc::{AllocError, Global};
 use tq_shape::{Levels, MOST_ENTRIES, MOST_FILES, MOST_OPS};
 
@@ -218,19 +220,7 @@ fn command_with_rehearsal<'a>(alloc: Global) -> Result<Command<'a>, AllocError>
     ensures { IfOk result (λ command. app_of command ≡ app_with_rehearsal) }
 {
     let rehearse = rehearse_command(alloc)?;
-    top_command(alloc).subcommand(rehearse)
-}
-
-/// The program without its subcommands.
-fn top_command<'a>(alloc: Global) -> Command<'a>
-    ensures { app_of result ≡ top_app }
-{
-    Command::new(alloc, "tqd")
-        .about(ABOUT)
-        .after_help(FIRST)
-        .version("0.1.0")
-        .subcommand_required(true)
-        .disable_help_subcommand(true)
+    top_command(alloc, "tqd", ABOUT, FIRST).subcommand(rehearse)
 }
 
 /// `rehearse FILE`.
@@ -238,12 +228,11 @@ fn rehearse_command<'a>(alloc: Global) -> Result<Command<'a>, AllocError>
     ensures app { IfOk result (λ command. app_of command ≡ rehearse_app) }
     ensures local { IfOk result (λ command. (out-Command command).has_globals ≡ false) }
 {
-    Command::new(alloc, "rehearse")
-        .about("Answers lines over the journals of a file")
-        .override_usage("tqd rehearse FILE < LINES")
-        .after_help(SHORT_REHEARSALS)
-        .after_long_help(REHEARSALS)
-        .arg(file_argument(alloc))
+    let usage = "tqd rehearse FILE < LINES";
+    let about = "Answers lines over the journals of a file";
+    let command = used_command(alloc, "rehearse", usage, about, SHORT_REHEARSAL, REHEARSAL);
+    let help = "A journal file, as tq threads prints it";
+    command.arg(set_argument(alloc, "file", "FILE", help, true))
 }
 
 /// `server S`, with the options of a part.
@@ -279,59 +268,36 @@ fn part_with_log<'a>(
     ensures app { IfOk result (λ command. app_of command ≡ part_app_with_log name.entry.now) }
     ensures local { IfOk result (λ command. (out-Command command).has_globals ≡ false) }
 {
-    let command = Command::new(alloc, name)
-        .about(about)
-        .override_usage(usage)
-        .after_help(SHORT_HOSTS)
-        .after_long_help(HOSTS)
-        .arg(levels_argument(alloc))?;
+    let command = used_command(alloc, name, usage, about, SHORT_HOSTS, HOSTS);
+    let command = command.arg(levels_argument(alloc))?;
     command.arg(log_argument(alloc))
-}
-
-fn file_argument<'a>(alloc: Global) -> Arg<'a>
-    ensures rule { rule_of result ≡ file_rule }
-    ensures local { result.global ≡ false }
-{
-    Arg::new(alloc, "file")
-        .value_name("FILE")
-        .help("A journal file, as tq threads prints it")
-        .required(true)
-        .action(ArgAction::Set)
 }
 
 fn server_argument<'a>(alloc: Global) -> Arg<'a>
     ensures rule { rule_of result ≡ server_rule }
     ensures local { result.global ≡ false }
 {
-    Arg::new(alloc, "server")
-        .value_name("S")
-        .help("The number of the server, 1 to 2^N - 1")
-        .required(true)
-        .action(ArgAction::Set)
-        .value_parser(clap::value_parser!(u32).range(1..=1_023))
+    let help = "The number of the server, 1 to 2^N - 1";
+    let parser = clap::value_parser!(u32).range(1..=1_023);
+    set_argument(alloc, "server", "S", help, true).value_parser(parser)
 }
 
 fn log_argument<'a>(alloc: Global) -> Arg<'a>
     ensures rule { rule_of result ≡ log_rule }
     ensures local { result.global ≡ false }
 {
-    Arg::new(alloc, "log")
-        .long("log")
-        .value_name("FILE")
-        .help("The file of its log, which is made where it is missing")
-        .required(true)
-        .action(ArgAction::Set)
+    let help = "The file of its log, which is made where it is missing";
+    set_argument(alloc, "log", "FILE", help, true).long("log")
 }
 
 fn limits_argument<'a>(alloc: Global) -> Arg<'a>
     ensures rule { rule_of result ≡ limits_rule }
     ensures local { result.global ≡ false }
 {
-    Arg::new(alloc, "limits")
+    let help = "The most of each, 1 up to 1000 64 1000000 (the default)";
+    set_argument(alloc, "limits", "LIMIT", help, false)
         .long("limits")
         .value_names(&["FILES", "OPS", "ENTRIES"])
-        .help("The most of each, 1 up to 1000 64 1000000 (the default)")
-        .action(ArgAction::Set)
         .value_parser(clap::value_parser!(u32).range(1..=1_000_000))
 }
 
@@ -395,7 +361,7 @@ file that can be read, written and synced), fault read, fault write, fault
 memory, or fault too long (more than 67108864 bytes of an ask); 2 where the
 words of the command are refused.";
 
-const SHORT_REHEARSALS: &str = "\
+const SHORT_REHEARSAL: &str = "\
 The lines are those of tq shell (tq shell --help explains them), read from
 standard input. Where no one run explains the journals no line is read, and what
 tq audit says of them is printed, with its status:
@@ -404,7 +370,7 @@ tq audit says of them is printed, with its status:
   unreadable                  4  it is no journal file
   fault ..                    1  want of memory, a failed device, too long";
 
-const REHEARSALS: &str = "\
+const REHEARSAL: &str = "\
 The journals of a system are those of all its parts: FILE is of format 1 or 2,
 from whoever wrote it. Where one run explains them, a service that has taken
 them answers the lines of tq shell (tq shell --help explains these), read from
