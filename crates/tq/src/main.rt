@@ -2,14 +2,11 @@
 //! over the standard streams.
 #![tactic(auto)]
 
-ghost use Rattle.std.specs.Prelude.{◌≤◌, ℕ, List};
+ghost use Rattle.std.specs.Prelude.{IfOk, ℕ, List};
 ghost use Rattle.tq_cli.specs.Command.{IsRead};
 
 use std::process::ExitCode;
-use std::sync::Wait;
-use std::thread::Threads;
 use std::{env, io};
-use tq_shape::Levels;
 use tq_shell::{RunFault, StdSink, StdSource, Words, WordsFault, audit, run, threads, upgrade};
 
 /// The status of what was done.
@@ -23,13 +20,48 @@ const REFUSED: u8 = 2;
 
 /// Does what the words ask for, and ends with the status of that.
 fn main(rt: HostRuntime) -> ExitCode {
-    let words = match words_given(&rt) {
+    let words = match words_read(&rt) {
         Ok(words) => words,
-        Err(error) => return refuse_unread(&rt, error),
+        Err(status) => return status,
+    };
+    let alloc = rt.alloc();
+    let mut reader = StdSource::new(rt.reader());
+    let mut writer = StdSink::new(io::writer(&rt));
+    let done = match words {
+        Words::Shell { levels } => run(alloc, levels, &mut reader, &mut writer).and(Ok(DONE)),
+        Words::Threads {
+            levels,
+            workers,
+            rounds,
+        } => threads(
+            &rt,
+            alloc,
+            levels,
+            workers,
+            rounds,
+            &mut reader,
+            &mut writer,
+        ),
+        Words::Audit => audit(alloc, &mut reader, &mut writer),
+        Words::Upgrade => upgrade(alloc, &mut reader, &mut writer),
+    };
+    match done {
+        Ok(status) => ExitCode::from(status),
+        Err(fault) => say_fault(&rt, fault),
+    }
+}
+
+/// What the words ask for; or the status of words that cannot be read, or are refused, which was said then.
+fn words_read(rt: &HostRuntime) -> Result<Words, ExitCode>
+    ensures { IfOk result (λ words. (texts : List (List ℕ)) × IsRead texts words) }
+{
+    let words = match words_given(rt) {
+        Ok(words) => words,
+        Err(error) => return Err(refuse_unread(rt, error)),
     };
     match Words::read(rt.alloc(), words.as_slice()) {
-        Ok(words) => obey(&rt, &rt, words),
-        Err(fault) => refuse(&rt, fault),
+        Ok(words) => Ok(words),
+        Err(fault) => Err(refuse(rt, fault)),
     }
 }
 
@@ -48,78 +80,6 @@ fn refuse_unread(rt: &HostRuntime, error: io::Error) -> ExitCode {
     }
     let printed = println!(rt; "error: the words cannot be read: {error}");
     ended(rt, printed, REFUSED)
-}
-
-/// Does what words that were read ask for; threads are started by the handle.
-fn obey<H: Threads + Wait + Sync>(rt: &HostRuntime, handle: &H, words: Words) -> ExitCode
-    requires { (texts : List (List ℕ)) × IsRead texts words }
-{
-    match words {
-        Words::Shell { levels } => shell(rt, levels),
-        Words::Threads {
-            levels,
-            workers,
-            rounds,
-        } => scripts(rt, handle, levels, workers, rounds),
-        Words::Audit => audit_file(rt),
-        Words::Upgrade => upgrade_file(rt),
-    }
-}
-
-fn shell(rt: &HostRuntime, levels: Levels) -> ExitCode {
-    let mut reader = StdSource::new(rt.reader());
-    let mut writer = StdSink::new(io::writer(rt));
-    match run(rt.alloc(), levels, &mut reader, &mut writer) {
-        Ok(()) => ExitCode::SUCCESS,
-        Err(fault) => say_fault(rt, fault),
-    }
-}
-
-/// Runs the client scripts of the standard input in threads.
-fn scripts<H: Threads + Wait + Sync>(
-    rt: &HostRuntime,
-    handle: &H,
-    levels: Levels,
-    workers: u32,
-    rounds: u32,
-) -> ExitCode
-    requires workers { workers ≤ 2 }
-    requires rounds { rounds ≤ 1000 }
-{
-    let mut reader = StdSource::new(rt.reader());
-    let mut writer = StdSink::new(io::writer(rt));
-    match threads(
-        handle,
-        rt.alloc(),
-        levels,
-        workers,
-        rounds,
-        &mut reader,
-        &mut writer,
-    ) {
-        Ok(status) => ExitCode::from(status),
-        Err(fault) => say_fault(rt, fault),
-    }
-}
-
-/// Audits the journal file of the standard input.
-fn audit_file(rt: &HostRuntime) -> ExitCode {
-    let mut reader = StdSource::new(rt.reader());
-    let mut writer = StdSink::new(io::writer(rt));
-    match audit(rt.alloc(), &mut reader, &mut writer) {
-        Ok(status) => ExitCode::from(status),
-        Err(fault) => say_fault(rt, fault),
-    }
-}
-
-/// Writes the journal file of the standard input in the format of today.
-fn upgrade_file(rt: &HostRuntime) -> ExitCode {
-    let mut reader = StdSource::new(rt.reader());
-    let mut writer = StdSink::new(io::writer(rt));
-    match upgrade(rt.alloc(), &mut reader, &mut writer) {
-        Ok(status) => ExitCode::from(status),
-        Err(fault) => say_fault(rt, fault),
-    }
 }
 
 /// Shows what clap answers to the words: why they are refused, or what they ask to be shown.
