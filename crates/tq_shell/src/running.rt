@@ -1,7 +1,7 @@
 //! Client scripts run from their text to their journals.
 
-ghost use Rattle.std.specs.Prelude.{◌≤◌, IfOk};
-ghost use Rattle.tq_shell.specs.Running.{IsOutcome};
+ghost use Rattle.std.specs.Prelude.{◌≤◌, IfOk, vec_len};
+ghost use Rattle.tq_shell.specs.Running.{IsOutcome, IsOutcomeOf};
 
 use crate::outcome::Outcome;
 use std::alloc::{AllocError, Global};
@@ -10,7 +10,7 @@ use std::thread::Threads;
 use tq_cells::OpenGate;
 use tq_cluster::{CloseFault, Cluster, Ran};
 use tq_shape::{Levels, Limits, Memory};
-use tq_syntax::{ScriptFault, read_scripts};
+use tq_syntax::{Script, ScriptFault, read_scripts};
 
 /// Runs the client scripts of the text in threads, over a new cluster, which is closed then. Answers an error only where
 /// memory was refused, to this call or to one of its threads; all threads have ended then too.
@@ -26,11 +26,27 @@ pub fn run_text<R: Threads + Wait + Sync>(
     requires rounds { rounds ≤ 1000 }
     ensures { IfOk result (IsOutcome levels workers text.now) }
 {
-    let scripts = match read_scripts(alloc, text) {
-        Ok(scripts) => scripts,
-        Err(ScriptFault::Memory) => return Err(AllocError),
-        Err(ScriptFault::Bad { line }) => return Ok(Outcome::BadScript { line }),
-    };
+    match read_scripts(alloc, text) {
+        Ok(scripts) => run_scripts(rt, alloc, levels, workers, rounds, scripts),
+        Err(ScriptFault::Memory) => Err(AllocError),
+        Err(ScriptFault::Bad { line }) => Ok(Outcome::BadScript { line }),
+    }
+}
+
+/// Runs the scripts over a new cluster, and closes it.
+fn run_scripts<R: Threads + Wait + Sync>(
+    rt: &R,
+    alloc: Global,
+    levels: Levels,
+    workers: u32,
+    rounds: u32,
+    scripts: Vec<Script>,
+) -> Result<Outcome, Memory>
+    requires few { vec_len scripts ≤ 16 }
+    requires workers { workers ≤ 2 }
+    requires rounds { rounds ≤ 1000 }
+    ensures { IfOk result (IsOutcomeOf levels workers scripts.items) }
+{
     let cluster = Cluster::new(alloc, levels, Limits::full(), OpenGate)?;
     let Ran {
         callers,
@@ -45,7 +61,18 @@ pub fn run_text<R: Threads + Wait + Sync>(
             journals: explained.journals,
         }),
         Err(CloseFault::Memory) => Err(AllocError),
-        Err(CloseFault::Receipt { .. }) => Ok(Outcome::Unclosed),
-        Err(CloseFault::Stuck { .. }) => Ok(Outcome::Unclosed),
+        Err(
+            CloseFault::Receipt {
+                part: _,
+                number: _,
+                found: _,
+            },
+        ) => Ok(Outcome::Unclosed),
+        Err(
+            CloseFault::Stuck {
+                journals: _,
+                placed: _,
+            },
+        ) => Ok(Outcome::Unclosed),
     }
 }
