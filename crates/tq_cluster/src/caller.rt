@@ -83,6 +83,14 @@ impl Caller {
         }
     }
 
+    /// Makes room for so many exchanges more, if memory is there: what was told need not move then, as it grows.
+    pub(crate) fn make_room(&mut self, exchanges: usize)
+        ensures { self.new ≡ self.old }
+    {
+        let _levels = self.levels;
+        let _made = self.told.reserve(exchanges);
+    }
+
     /// What it was told of its asks, in their order. It takes no memory.
     pub(crate) fn into_told(self) -> Seq<Exchange>
         ensures { result ≡ self.told }

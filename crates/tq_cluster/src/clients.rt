@@ -27,6 +27,9 @@ use tq_syntax::Script;
 /// How many jobs wait in the queue at most.
 const ROOM: usize = 64;
 
+/// As many asks as a line of a script makes, about.
+const ASKS: usize = 8;
+
 /// The callers that were made, and whether any met want of memory.
 #[derive(Drop)]
 pub struct Ran {
@@ -55,12 +58,13 @@ fn run_client<R: Wait, G: Gate + Drop>(
     ensures { IsClient cluster.now.levels cluster.now.limits script.now
         result.memory result.caller }
 {
-    let Ok(caller) = cluster.caller(alloc) else {
+    let Ok(mut caller) = cluster.caller(alloc) else {
         return Client {
             caller: None,
             memory: true,
         };
     };
+    caller.make_room(script.lines().len().saturating_mul(ASKS));
     let levels = cluster.levels();
     let limits = cluster.limits();
     let mut asking = Asking::new(rt, cluster, caller);

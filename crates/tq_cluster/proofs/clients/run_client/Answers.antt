@@ -16,7 +16,7 @@ returns g c =
     let old = c.new-asking.result.told in
     let caller = c.into_caller.result in
     let memory = c.is_err.result in
-    let none = ap (λ (v : CallerView). v.told) (c.new-asking.ensures ∙ c.in-Ok.ensures) in
+    let none = ap (λ (v : CallerView). v.told) (c.new-asking.ensures ∙ c.make_room.ensures ∙ c.in-Ok.ensures) in
     let asked = subst (λ (v : CallerView). Follows (script_asked levels limits script None) old v.told (result_ok c.run_script-ended.result)) (sym c.into_caller.ensures) c.run_script-ended.ensures.asks in
     let client = client_told levels limits script old caller c.run_script-ended.result memory c.is_err.ensures.value none asked in
     subst (λ (n : ℕ). IsClient n c.args.cluster.now.limits script memory (Some caller)) c.levels-levels.ensures
