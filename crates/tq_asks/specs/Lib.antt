@@ -1,3 +1,2 @@
-pub mod Citing
-pub mod Same
+pub mod Verdicts
 pub mod Reasons

@@ -1,8 +1,8 @@
 //! What servers are asked and what they reply, with refusals and verdicts.
 
 ghost use Rattle.std.specs.Prelude.{◌≡◌, IfOk};
-ghost use Rattle.tq_asks.specs.Citing as spec;
-ghost use Rattle.tq_asks.specs.Same.{same_verdict};
+ghost use Rattle.tq_asks.specs.Verdicts as spec;
+ghost use Rattle.tq_asks.specs.Verdicts.{same_verdict};
 
 use crate::Reason;
 use std::alloc::Global;

@@ -1,6 +1,6 @@
 //! What servers are asked, and what they reply.
 //!
-//! Definitions: `specs/Citing` (the votes that a verdict cites), `Same` (equal verdicts), `Reasons`.
+//! Definitions: `specs/Verdicts` (the votes that a verdict cites, and equal verdicts), `Reasons`.
 #![tactic(auto)]
 
 mod ask;

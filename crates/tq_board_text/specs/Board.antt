@@ -1,5 +1,6 @@
--- The text of the board: what an operator sees of the tables, beside the costs and marks of a view.
-use Rattle.std.specs.Prelude.{◌≡◌, ℕ, ◌-◌, ◌^◌, Bool, true, false, List, [], ◌∷◌, ◌++◌, map, String, Option, Some, None, codes, slice_index_or}
+-- The text of the board: what an operator sees of the tables, beside the costs and marks of a view. The servers of a
+-- file's row as text.
+use Rattle.std.specs.Prelude.{◌≡◌, ℕ, ◌-◌, ◌^◌, Bool, true, false, List, [], ◌∷◌, ◌++◌, map, String, Option, Some, None, codes, slice_index_or, ◌&&◌, nat_eq}
 use Rattle.std.specs.List.{flat_map}
 use Rattle.std.specs.String.{string_bytes}
 use Rattle.std.specs.Fmt.{decimal}
@@ -8,15 +9,17 @@ use Rattle.tq_live.specs.View.{upwards}
 use Rattle.tq_live.specs.declared.costs.Costs.{Costs}
 use Rattle.tq_live.specs.declared.least.Least.{Least}
 use Rattle.tq_tables.specs.Tables.{TablesView}
-use Rattle.tq_tables.specs.declared.quorum_row.QuorumRow.{QuorumRow}
+use Rattle.tq_tables.specs.declared.quorum_rows.QuorumRow.{QuorumRow}
 use Rattle.tq_tables.specs.Rows.{no_quorums}
 use Rattle.tq_tables.specs.declared.file_row.FileRow.{FileRow}
-use Rattle.tq_tables.specs.declared.lock_row.LockRow.{LockRow}
-use Rattle.tq_tables.specs.declared.intent_row.FileVersion.{FileVersion}
-use Rattle.tq_tables.specs.declared.intent_row.IntentRow.{IntentRow}
-use Rattle.tq_tables.specs.declared.intent_row.IntentState.{IntentState}
-use Rattle.tq_tables.specs.declared.intent_row.IntentState.TheVariants.{Unknown, Undecided, Abort, Install, Discard}
+use Rattle.tq_tables.specs.declared.lock_rows.LockRow.{LockRow}
+use Rattle.tq_tables.specs.declared.intent_rows.FileVersion.{FileVersion}
+use Rattle.tq_tables.specs.declared.intent_rows.IntentRow.{IntentRow}
+use Rattle.tq_tables.specs.declared.intent_rows.IntentState.{IntentState}
+use Rattle.tq_tables.specs.declared.intent_rows.IntentState.TheVariants.{Unknown, Undecided, Abort, Install, Discard}
 use Rattle.tq_locks.specs.Locks.{mode_text}
+use Rattle.std.specs.Cmp.Lexicographic.{pointwise}
+use Rattle.std.specs.Borrow.{Bor}
 
 -- these bytes were put behind the text
 abbrev pub Appends : {Z : Type 0} → String Z → String Z → List ℕ → Type 0
@@ -137,3 +140,20 @@ board_text tables view =
     ++ server_lines tables view
     ++ row_lines tables.files tables.locks tables.intentions
     ++ as_line (codes "end")
+
+-- ---- sets
+
+-- the current and the stale servers of a file, as its line has them
+abbrev pub sets_text : FileRow → List ℕ
+sets_text row = servers_text row.current.numbers ++ codes " stale" ++ servers_text row.stale.numbers
+
+-- both rows have the same current servers, and the same stale ones
+abbrev pub have_same_sets : FileRow → FileRow → Bool
+have_same_sets one other =
+    pointwise nat_eq one.current.numbers other.current.numbers
+    && pointwise nat_eq one.stale.numbers other.stale.numbers
+
+-- the text is that of the row, where there is one
+abbrev pub IsTextOf : Option (Bor FileRow) → List ℕ → Type 0
+IsTextOf None text = Unit {0}
+IsTextOf (Some row) text = text ≡ sets_text row.now

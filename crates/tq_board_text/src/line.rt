@@ -1,8 +1,7 @@
 //! One line of the board for each kind of row.
 
 ghost use Rattle.std.specs.Prelude.{◌≡◌, OnOk};
-ghost use Rattle.tq_tables.specs.Rows.{least_in};
-ghost use Rattle.tq_tables.specs.Walk.{lent_row};
+ghost use Rattle.tq_tables.specs.Rows.{least_in, lent_row};
 ghost use Rattle.tq_board_text.specs.Board.{Appends, as_line, costs_text, file_text, intent_text, least_text, leasts_text, lock_text, row_of, server_line, version_text};
 
 use crate::sets::{SetsText, push_sets};

@@ -1,7 +1,6 @@
 //! The servers of a file's row as text, kept for the rows behind it: neighbours in the list often have the same.
 ghost use Rattle.std.specs.Prelude.{◌≡◌, OnOk};
-ghost use Rattle.tq_board_text.specs.Board.{Appends};
-ghost use Rattle.tq_board_text.specs.Sets.{have_same_sets, sets_text};
+ghost use Rattle.tq_board_text.specs.Board.{Appends, have_same_sets, sets_text};
 
 use crate::word::push_set;
 use std::alloc::Global;
@@ -18,7 +17,7 @@ pub(crate) struct SetsText<'a> {
 
 impl<'a> Model for SetsText<'a> {
     ghost use Rattle.std.specs.Prelude.{string_bytes};
-    ghost use Rattle.tq_board_text.specs.Sets.{IsTextOf};
+    ghost use Rattle.tq_board_text.specs.Board.{IsTextOf};
 
     ghost Value = { Unit {0} };
 
@@ -29,8 +28,7 @@ impl<'a> Model for SetsText<'a> {
 
 impl<'a> SetsText<'a> {
     ghost use Rattle.std.specs.Prelude.{OnOk};
-    ghost use Rattle.tq_board_text.specs.Board.{Appends};
-    ghost use Rattle.tq_board_text.specs.Sets.{sets_text};
+    ghost use Rattle.tq_board_text.specs.Board.{Appends, sets_text};
 
     /// That of no row.
     pub(crate) fn new(alloc: Global) -> SetsText<'a> {

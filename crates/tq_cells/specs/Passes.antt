@@ -1,10 +1,10 @@
 -- What a caller of a cell was told.
 use Rattle.std.specs.Prelude.{◌≡◌, ◌≤◌, ◌⊎◌, ◌-◌, ◌+◌, ℕ, zero, suc, List, [], ◌∷◌, ◌++◌, slice_get, Some}
-use Rattle.tq_shape.specs.declared.entry.Entry.{Entry}
+use Rattle.tq_shape.specs.declared.part.Entry.{Entry}
 use Rattle.tq_shape.specs.declared.part.Part.{Part}
 use Rattle.tq_shape.specs.Journal.{IsLegalFrom, entry}
-use Rattle.tq_cells.specs.declared.told.Untaken.{Untaken}
-use Rattle.tq_cells.specs.declared.told.Untaken.TheVariants as untaken
+use Rattle.tq_cells.specs.declared.cell.Untaken.{Untaken}
+use Rattle.tq_cells.specs.declared.cell.Untaken.TheVariants as untaken
 
 -- a receipt: the part that was asked, the number of the entry, the ask and the reply
 pub record Told (A R : Type 0) : Type 0 where

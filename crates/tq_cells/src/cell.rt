@@ -1,8 +1,8 @@
-//! The lock of a part, and what is asked under it.
+//! The lock of a part, what is asked under it, and what the part told of an ask, twice.
 
 ghost use Rattle.std.specs.Prelude.{◌≡◌, ◌+◌, ◌∷◌, ◌++◌, [], ◌≤◌, ◌<◌, List, drop, max, vec_len, IfOk, IfErr, OnErr};
 ghost use Rattle.std.specs.Sync.Mutex.{mutex_guard_value};
-ghost use Rattle.tq_shape.specs.declared.entry.Entry.{Entry};
+ghost use Rattle.tq_shape.specs.declared.part.Entry.{Entry};
 ghost use Rattle.tq_shape.specs.Journal.{IsLegalFrom};
 ghost use Rattle.tq_cells.specs.Passes.{IsToldBy, IsToldByOneOf, IsUntaken, last_behind, seen_by, receipts_of};
 
@@ -12,12 +12,10 @@ use crate::held::{answer, answer_to, since};
 use crate::pass::Pass;
 use crate::receipt::Receipt;
 use crate::settings::Settings;
-use crate::told::{Twice, Untaken};
 use std::alloc::Global;
 use std::marker::Model;
 use std::sync::{Mutex, MutexGuard, Wait};
-use tq_part::{Answers, Journaled};
-use tq_shape::{Entry, Memory, Part};
+use tq_shape::{Answers, Entry, Journaled, Memory, Part};
 
 /// A part under a lock, beside its journal, which many threads may ask at once. Whenever the lock is free, the journal
 /// is legal and the part is its replay.
@@ -190,4 +188,22 @@ fn receipts_in_order<P: Answers>(
         all.append(&mut receipts)?;
     }
     Ok(all)
+}
+
+/// What a part told of an ask, twice: one entry to keep, and an equal one to hand on. It is plain data.
+#[derive(Drop)]
+pub struct Twice<A, R> {
+    /// The number of the ask's entry: its place in the journal of the part, from 1.
+    pub number: u64,
+    pub kept: Entry<A, R>,
+    pub told: Entry<A, R>,
+}
+
+/// Why an ask was not taken. Then the part and its journal are as they were.
+#[derive(Drop)]
+pub enum Untaken<A> {
+    /// Memory was refused.
+    Memory,
+    /// The journal has as many entries as it may have. The ask is given back.
+    JournalFull { ask: A },
 }

@@ -2,15 +2,14 @@
 
 ghost use Rattle.std.specs.Prelude.{◌≡◌, ◌+◌, ◌∷◌, ◌++◌, [], ◌↔◌, length, drop, max, vec_len, IfOk, IfErr, OnOk, OnErr, IsErrOf};
 ghost use Rattle.tq_shape.specs.Journal.{IsLegalFrom, entry};
-ghost use Rattle.tq_part.specs.Agrees.{standing_part};
+ghost use Rattle.tq_shape.specs.Agrees.{standing_part};
 ghost use Rattle.tq_cells.specs.Passes.{IsUntaken, last_behind, told_reply};
 
+use crate::cell::{Twice, Untaken};
 use crate::pass::Pass;
 use crate::receipt::Receipt;
-use crate::told::{Twice, Untaken};
 use std::alloc::Global;
-use tq_part::{Answers, Fault, Journaled};
-use tq_shape::{Entry, Memory, Part};
+use tq_shape::{Answers, Entry, Fault, Journaled, Memory, Part};
 
 /// Asks the part under the next number, and enters what it replies into the journal. The part judges the ask once, and
 /// both copies of the entry are made before it changes. Answers `JournalFull` with the ask where the journal has as

@@ -9,12 +9,10 @@ mod held;
 mod pass;
 mod receipt;
 mod settings;
-mod told;
 
-pub use cell::Cell;
+pub use cell::{Cell, Twice, Untaken};
 pub use gate::{Gate, OpenGate};
 pub use pass::Pass;
 pub use receipt::Receipt;
 pub use settings::Settings;
-pub use told::{Twice, Untaken};
-pub use tq_part::{Answers, Fault as CallFault};
+pub use tq_shape::{Answers, Fault as CallFault};

@@ -6,7 +6,7 @@ ghost use Rattle.tq_cells.specs.Passes.{seen_by};
 use crate::receipt::Receipt;
 use std::alloc::Global;
 use std::marker::Model;
-use tq_part::Answers;
+use tq_shape::Answers;
 
 /// What one caller was told at one cell: the receipts in the order of its calls, and the greatest number of an entry
 /// that it was told of. It is plain data.

@@ -5,8 +5,7 @@ ghost use Rattle.tq_shape.specs.Journal.{entry};
 ghost use Rattle.tq_cells.specs.Passes.{told_reply};
 
 use std::marker::Model;
-use tq_part::Answers;
-use tq_shape::{Entry, Part};
+use tq_shape::{Answers, Entry, Part};
 
 /// What a caller was told of an ask: which part was asked, under which number, and what it replied. Only a cell makes
 /// one.

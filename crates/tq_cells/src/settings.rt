@@ -1,6 +1,6 @@
 //! Which part a cell is to hold.
 
-use tq_part::Answers;
+use tq_shape::Answers;
 
 /// What a part in a cell is to be, as no ask changes it: a server which one, a desk of which limits.
 pub trait Settings<P: Answers> {

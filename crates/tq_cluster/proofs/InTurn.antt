@@ -10,7 +10,7 @@ use Rattle.tq_mirror.specs.declared.entries.Entries.{Entries}
 use Rattle.tq_mirror.specs.declared.fault.PullFault.{PullFault}
 use Rattle.tq_mirror.specs.Prefixes.{IsPullFault, journals_with, prefix_length}
 use Rattle.tq_cluster.specs.Told.{CallerView, having_seen, seen_of}
-use Rattle.tq_cluster.specs.Pulls.{ArePulled, IsNotPulled, IsPulled, seen_then, servers_from}
+use Rattle.tq_cluster.specs.Rounds.{ArePulled, IsNotPulled, IsPulled, seen_then, servers_from}
 use Rattle.tq_cluster.proofs.Came.{took_none}
 
 -- ---- one part

@@ -1,12 +1,7 @@
-pub mod LegalParts
-pub mod Names
 pub mod Closing
 pub mod Seen
 pub mod Pulled
-pub mod Puts
-pub mod OfParts
 pub mod Callers
-pub mod Begun
-pub mod Crossing
 pub mod Came
 pub mod InTurn
+pub mod Queued

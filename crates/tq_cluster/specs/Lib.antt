@@ -1,8 +1,5 @@
 pub mod Cluster
-pub mod Own
 pub mod Told
-pub mod Closes
-pub mod Pulls
-pub mod Clients
-pub mod Backwards
 pub mod Rounds
+pub mod Clients
+pub mod Rule

@@ -1,30 +1,41 @@
--- What a caller of a cluster was told.
-use Rattle.std.specs.Prelude.{◌≡◌, ◌≤◌, ◌⊎◌, ℕ, ◌-◌, ◌^◌, List, [], ◌∷◌, Result, Ok, Err, IfOk, IfErr, OnErr, get_or, max, set, replicate}
-use Rattle.std.specs.List.{AllByRecursion}
+-- Which part of a system a part is. What a caller of a cluster was told.
+use Rattle.std.specs.Prelude.{◌≡◌, ℕ, ◌≤◌, ◌⊎◌, ◌-◌, ◌^◌, List, [], ◌∷◌, Result, Ok, Err, IfOk, IfErr, OnErr, get_or, max, set, replicate}
 use Rattle.tq_shape.specs.Limits.{LimitsView}
+use Rattle.tq_node.specs.Node.{NodeView, server_after}
+use Rattle.tq_desk.specs.DeskStep.{DeskView, desk_reply, desk_after}
+use Rattle.tq_live.specs.Live.{Live}
+use Rattle.std.specs.List.{AllByRecursion}
 use Rattle.tq_shape.specs.declared.part.Part.{Part}
 use Rattle.tq_shape.specs.declared.part.Part.TheVariants as parts
 use Rattle.tq_cells.specs.Passes.{IsToldByOneOf}
 use Rattle.tq_asks.specs.declared.ask.NodeAsk.{NodeAsk}
 use Rattle.tq_asks.specs.declared.ask.NodeReply.{NodeReply}
 use Rattle.tq_node.specs.Records.{node_reply}
-use Rattle.tq_node.specs.Node.{NodeView, server_after}
 use Rattle.tq_node.specs.Node as node
 use Rattle.tq_desk.specs.declared.ask.DeskAsk.{DeskAsk}
 use Rattle.tq_desk.specs.declared.ask.DeskReply.{DeskReply}
-use Rattle.tq_desk.specs.DeskStep.{DeskView, desk_reply, desk_after}
 use Rattle.tq_desk.specs.DeskStep as desk
-use Rattle.tq_live.specs.Live.{Live}
 use Rattle.tq_live.specs.View.{view_state, view_reply, view_after}
 use Rattle.tq_live.specs.declared.view.ViewAsk.{ViewAsk}
 use Rattle.tq_live.specs.declared.view.ViewReply.{ViewReply}
 use Rattle.tq_txn.specs.declared.asker.Exchange.{Exchange}
 use Rattle.tq_txn.specs.declared.asker.Exchange.TheVariants as exchanges
 use Rattle.tq_txn.specs.Dialogue.{Told, unless_memory}
-use Rattle.tq_part.specs.declared.fault.AskFault.{AskFault}
-use Rattle.tq_part.specs.declared.fault.AskFault.TheVariants as faults
+use Rattle.tq_shape.specs.declared.fault.AskFault.{AskFault}
+use Rattle.tq_shape.specs.declared.fault.AskFault.TheVariants as faults
 use Rattle.tq_cluster.specs.declared.asked.Numbered.{Numbered}
-use Rattle.tq_cluster.specs.Own.{IsServerOf, IsDeskOf, IsViewOf}
+
+-- the server of that number in a tree of so many levels; a desk of so many levels and those limits; the view of such a tree
+abbrev pub IsServerOf : ℕ → ℕ → NodeView → Type 0
+IsServerOf levels number server = (server.levels ≡ levels) × (server.server ≡ number)
+
+abbrev pub IsDeskOf : ℕ → LimitsView → DeskView → Type 0
+IsDeskOf levels limits desk = (desk.levels ≡ levels) × (desk.limits ≡ limits)
+
+abbrev pub IsViewOf : ℕ → Live → Type 0
+IsViewOf levels view = view.levels ≡ levels
+
+-- ---- told
 
 -- of each part the greatest number of an entry that one was told of, 0 where of none: of the servers upwards from server 1,
 -- of the desk and of the view

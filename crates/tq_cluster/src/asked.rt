@@ -8,8 +8,7 @@ use crate::recorded::Recorded;
 use std::alloc::Global;
 use std::sync::Wait;
 use tq_cells::{Cell, Gate, Pass, Settings, Twice, Untaken};
-use tq_part::{Answered, AskFault};
-use tq_shape::{Entry, Part};
+use tq_shape::{Answered, AskFault, Entry, Part};
 use tq_txn::Exchange;
 
 /// An ask with its reply, and the number of their entry.

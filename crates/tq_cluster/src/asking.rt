@@ -11,8 +11,7 @@ use tq_asks::NodeAsk;
 use tq_cells::Gate;
 use tq_desk::DeskAsk;
 use tq_live::ViewAsk;
-use tq_part::AskFault;
-use tq_shape::ServerId;
+use tq_shape::{AskFault, ServerId};
 use tq_txn::{Asker, DeskTold, NodeTold, ViewTold};
 
 /// A caller that asks the parts of a cluster, each under that part's lock: so the lines of a client run over it.

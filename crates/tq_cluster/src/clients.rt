@@ -3,12 +3,12 @@
 ghost use Rattle.std.specs.Prelude.{◌≡◌, ◌<◌, ◌≤◌, ◌+◌, ◌-◌, ℕ, [], ◌∷◌, ◌++◌, List, length, vec_len, vec_capacity, true, false};
 ghost use Rattle.crossbeam_channel.specs.Claims.{view};
 ghost use Rattle.crossbeam_channel.specs.Ends.{sends_on};
-ghost use Rattle.tq_queue.specs.Rule.{hand, IsPrefixTaken};
+ghost use Rattle.tq_cluster.specs.Rule.{hand, IsPrefixTaken};
 ghost use Rattle.tq_cluster.specs.declared.workers.Message.{Message};
 ghost use Rattle.tq_cluster.specs.Told.{AreToldByParts, CallerView};
-ghost use Rattle.tq_cluster.specs.Clients.{AllBegan, AllRan, if_made};
-ghost use Rattle.tq_cluster.specs.Backwards.{BeganBackwards, HaveBegun, IsClient, RunBackwards};
+ghost use Rattle.tq_cluster.specs.Clients.{AllBegan, AllRan, if_made, BeganBackwards, HaveBegun, IsClient, RunBackwards};
 
+use crate::Putter;
 use crate::asking::Asking;
 use crate::caller::Caller;
 use crate::cluster::Cluster;
@@ -19,10 +19,9 @@ use std::sync::Wait;
 use std::thread;
 use std::thread::{Promise, Scope, Threads};
 use tq_cells::Gate;
-use tq_client::run_script;
-use tq_queue::Putter;
 use tq_shape::{Levels, Limits};
 use tq_syntax::Script;
+use tq_txn::run_script;
 
 /// How many jobs wait in the queue at most.
 const ROOM: usize = 64;
@@ -263,7 +262,7 @@ impl<G: Gate + Drop + Sync> Cluster<G> {
     /// workers' queue. It gives the callers back once all threads have ended: every one that was made. Where a caller, the
     /// queue or a thread is refused, the threads that were started run to their end, and memory is refused. Each caller
     /// was told the first of what its script asks, or its jobs; all of it unless memory was refused.
-    #[tactic(auto, using(crate::proofs::Callers::run_in_order, crate::proofs::Begun::began_in_order, crate::proofs::Begun::none_in_order,))]
+    #[tactic(auto, using(crate::proofs::Callers::run_in_order, crate::proofs::Callers::began_in_order, crate::proofs::Callers::none_in_order,))]
     pub fn run_clients<R: Threads + Wait + Sync>(
         &self,
         rt: &R,

@@ -17,8 +17,7 @@ use tq_cells::{Cell, Gate, Pass};
 use tq_desk::{Desk, DeskAsk};
 use tq_live::{View, ViewAsk};
 use tq_node::Node;
-use tq_part::AskFault;
-use tq_shape::{Levels, Limits, Memory, Part, ServerId};
+use tq_shape::{AskFault, Levels, Limits, Memory, Part, ServerId};
 use tq_tables::{Journals, NodeEntry};
 use tq_txn::{DeskTold, NodeTold, ViewTold};
 

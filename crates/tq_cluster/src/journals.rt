@@ -13,8 +13,7 @@ use tq_cells::Cell;
 use tq_desk::Desk;
 use tq_live::View;
 use tq_node::Node;
-use tq_part::Journaled;
-use tq_shape::{Levels, Limits};
+use tq_shape::{Journaled, Levels, Limits};
 use tq_tables::{DeskEntry, NodeEntry, ViewEntry};
 
 /// The journals of the servers in these cells, upwards from server 1, of at most that many entries each, put into the

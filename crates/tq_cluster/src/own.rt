@@ -1,6 +1,6 @@
 //! Which part of a cluster each cell is to hold.
 
-ghost use Rattle.tq_cluster.specs.Own.{IsDeskOf, IsServerOf, IsViewOf};
+ghost use Rattle.tq_cluster.specs.Told.{IsDeskOf, IsServerOf, IsViewOf};
 
 use tq_cells::Settings;
 use tq_desk::Desk;

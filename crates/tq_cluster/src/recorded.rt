@@ -8,8 +8,7 @@ use tq_asks::{NodeAsk, NodeReply};
 use tq_desk::{Desk, DeskAsk, DeskReply};
 use tq_live::{View, ViewAsk, ViewReply};
 use tq_node::Node;
-use tq_part::Answers;
-use tq_shape::Part;
+use tq_shape::{Answers, Part};
 use tq_txn::{Exchange, Told};
 
 /// A part of a cluster: callers keep what they are told of it as exchanges.

@@ -9,8 +9,9 @@ ghost use Rattle.tq_cluster.specs.declared.workers.Message.{Message};
 ghost use Rattle.tq_tables.specs.Journals.{JournalsView};
 ghost use Rattle.tq_cluster.specs.Rounds.{AreRounds, IsPut, IsRound, with_jobs};
 ghost use Rattle.tq_cluster.specs.Told.{CallerView};
-ghost use Rattle.tq_cluster.specs.Backwards.{HaveBegun, WorkBackwards};
+ghost use Rattle.tq_cluster.specs.Clients.{HaveBegun, WorkBackwards};
 
+use crate::Putter;
 use crate::caller::Caller;
 use crate::cluster::Cluster;
 use crate::live_board::LiveBoard;
@@ -19,7 +20,6 @@ use std::alloc::Global;
 use std::sync::Wait;
 use tq_cells::Gate;
 use tq_mirror::PullFault;
-use tq_queue::Putter;
 use tq_refresh::{FileJobs, Job, PlanByFile, plan_by_file};
 use tq_shape::ServerSet;
 

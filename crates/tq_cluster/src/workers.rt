@@ -5,19 +5,18 @@ ghost use Rattle.crossbeam_channel.specs.Claims.{view};
 ghost use Rattle.crossbeam_channel.specs.Ends.{sends_on, receives_on};
 ghost use Rattle.tq_cluster.specs.declared.workers.Message.{Message};
 ghost use Rattle.tq_cluster.specs.Told.{CallerView};
-ghost use Rattle.tq_cluster.specs.Clients.{BeginsJobs, JobsBegin};
-ghost use Rattle.tq_cluster.specs.Backwards.{HaveBegun, jobs_in, Works, WorkBackwards};
+ghost use Rattle.tq_cluster.specs.Clients.{BeginsJobs, JobsBegin, HaveBegun, jobs_in, Works, WorkBackwards};
 
 use crate::asking::Asking;
 use crate::caller::Caller;
 use crate::cluster::Cluster;
 use crate::rounds::{run_rounds, stop};
+use crate::{Putter, Taker};
 use std::alloc::Global;
 use std::snapshot::Snapshot;
 use std::sync::Wait;
 use std::thread::{Promise, Scope, Threads};
 use tq_cells::Gate;
-use tq_queue::{Putter, Taker};
 use tq_refresh::{Job, refresh};
 use tq_shape::Levels;
 

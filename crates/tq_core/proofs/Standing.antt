@@ -11,11 +11,11 @@ use Rattle.std.proofs.lemmas.Nat.{pow_pos}
 use Rattle.tq_shape.specs.Limits.{LimitsView}
 use Rattle.tq_shape.specs.Tree.{IsServer}
 use Rattle.tq_shape.specs.Journal.{entry}
-use Rattle.tq_shape.specs.declared.entry.Entry.{Entry}
+use Rattle.tq_shape.specs.declared.part.Entry.{Entry}
 use Rattle.tq_shape.specs.declared.part.Part.TheVariants as parts
-use Rattle.tq_part.specs.declared.fault.AskFault.{AskFault}
-use Rattle.tq_part.specs.declared.fault.AskFault.TheVariants as ask_faults
-use Rattle.tq_part.specs.declared.journaled.Answered.{Answered}
+use Rattle.tq_shape.specs.declared.fault.AskFault.{AskFault}
+use Rattle.tq_shape.specs.declared.fault.AskFault.TheVariants as ask_faults
+use Rattle.tq_shape.specs.declared.journaled.Answered.{Answered}
 use Rattle.tq_asks.specs.declared.ask.NodeAsk.{NodeAsk}
 use Rattle.tq_asks.specs.declared.ask.NodeReply.{NodeReply}
 use Rattle.tq_node.specs.Node.{NodeView}
@@ -32,28 +32,25 @@ use Rattle.tq_live.specs.declared.view.ViewAsk.TheVariants.{SetCost, Mark, Choos
 use Rattle.tq_live.specs.declared.view.ViewReply.{ViewReply}
 use Rattle.tq_live.specs.declared.view.ViewReply.TheVariants.{CostSet, Marked, Refused}
 use Rattle.tq_live.specs.declared.view.ViewRefusal.TheVariants.{NoSuchServer, BadCost}
-use Rattle.tq_tables.specs.Asked.{FollowsDesk, FollowsNode, FollowsView, MayAskNode, both, desk_replies, node_in, node_replies, view_replies}
-use Rattle.tq_tables.specs.declared.replies.Replies.{Replies}
+use Rattle.tq_tables.specs.Tables.{FollowsDesk, FollowsNode, FollowsView, MayAskNode, both, desk_replies, node_in, node_replies, view_replies, entries_of, with_node, TablesView, tables_of}
+use Rattle.tq_tables.specs.declared.parts.Replies.{Replies}
 use Rattle.tq_tables.specs.Journals.{JournalsView, AreJournals, IsOfTree, ViewEntry, with_desk, with_view}
-use Rattle.tq_tables.specs.NextOfServer.{entries_of, with_node}
 use Rattle.tq_tables.specs.Parts.{AreLegal, node_after_all}
-use Rattle.tq_tables.specs.Tables.{TablesView, tables_of}
 use Rattle.tq_tables.proofs.Restood.{is_there, node_in-at, node_is}
-use Rattle.tq_world.specs.declared.answer.Reply.{Reply}
-use Rattle.tq_world.specs.declared.answer.Reply.TheVariants as replies
-use Rattle.tq_world.specs.declared.answer.Step.{Step}
-use Rattle.tq_world.specs.declared.answer.Step.TheVariants as steps
-use Rattle.tq_world.specs.declared.citation.Citation.{Citation}
-use Rattle.tq_world.specs.World.{item_at, empty_world, view_at}
-use Rattle.tq_world.specs.Founded.{unfounded_in_node_ask, unfounded_in_desk_ask}
-use Rattle.tq_world.specs.Offered.{OffersBest}
-use Rattle.tq_world.specs.Steps.{refuse_entry, refuse_at, refusal, answer, server_journal, node_entry, desk_entry, view_entry, world_with_step, world_after, run, IsOfRun, IsTold}
-use Rattle.tq_world.proofs.Legal.{all_offered, legal_run}
-use Rattle.tq_world.proofs.Rooms.{entry_room, item_above, node_room}
-use Rattle.tq_world.proofs.Runs.{told_answer, told_refusal, world_grown}
-use Rattle.tq_core.specs.Asked.{answer_of, refusal_of, told_by}
+use Rattle.tq_core.specs.declared.answer.Reply.{Reply}
+use Rattle.tq_core.specs.declared.answer.Reply.TheVariants as replies
+use Rattle.tq_core.specs.declared.answer.Step.{Step}
+use Rattle.tq_core.specs.declared.answer.Step.TheVariants as steps
+use Rattle.tq_core.specs.declared.citation.Citation.{Citation}
+use Rattle.tq_core.specs.World.{item_at, empty_world, view_at}
+use Rattle.tq_core.specs.Founded.{unfounded_in_node_ask, unfounded_in_desk_ask}
+use Rattle.tq_core.specs.Headline.{OffersBest}
+use Rattle.tq_core.specs.Steps.{refuse_entry, refuse_at, refusal, answer, server_journal, node_entry, desk_entry, view_entry, world_with_step, world_after, run, IsOfRun, IsTold}
+use Rattle.tq_core.proofs.Legal.{all_offered, legal_run}
+use Rattle.tq_core.proofs.Journaled.{entry_room, item_above, node_room}
+use Rattle.tq_core.proofs.Runs.{told_answer, told_refusal, world_grown}
+use Rattle.tq_core.specs.Service.{answer_of, refusal_of, told_by, IsService}
 use Rattle.tq_tables.specs.Tabled.{journals_in}
-use Rattle.tq_core.specs.Service.{IsService}
 
 -- ---- whether an ask is taken
 

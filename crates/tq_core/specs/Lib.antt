@@ -1,11 +1,7 @@
 pub use Rattle.tq_shape.specs.Journal
 pub use Rattle.tq_tables.specs.Journals
-pub use Rattle.tq_world.specs.World
-pub use Rattle.tq_world.specs.Founded
-pub use Rattle.tq_world.specs.Steps
-pub use Rattle.tq_world.specs.CommittedReads
-pub use Rattle.tq_world.specs.JournalOf
-pub use Rattle.tq_world.specs.Offered
-pub use Rattle.tq_world.specs.Headline
-pub mod Asked
 pub mod Service
+pub mod World
+pub mod Founded
+pub mod Steps
+pub mod Headline

@@ -4,18 +4,19 @@ ghost use Rattle.std.specs.Prelude.{◌≡◌, ◌+◌, ◌-◌, ◌^◌, IfOk, 
 ghost use Rattle.std.specs.Option.{option_copied, option_map};
 ghost use Rattle.tq_tables.specs.Parts.{AreLegal};
 ghost use Rattle.tq_tables.specs.Tables.{tables_of};
-ghost use Rattle.tq_core.specs.Asked as asks;
+ghost use Rattle.tq_core.specs.Service as asks;
 
-use crate::{Answer, Answered, Journal, Refusal, Reply, Step};
+use crate::{
+    Answer, Answered, Citation, CitedEntries, Journal, Refusal, Reply, Step, item_at,
+    unfounded_in_desk_ask, unfounded_in_node_ask,
+};
 use std::alloc::Global;
 use std::marker::Model;
 use tq_asks::{NodeAsk, NodeReply};
 use tq_desk::{DeskAsk, DeskReply};
 use tq_live::{View, ViewAsk, ViewReply};
-use tq_part::AskFault;
-use tq_shape::{Levels, Limits, Memory, Part, ServerId, make_room};
+use tq_shape::{AskFault, Levels, Limits, Memory, Part, ServerId, make_room};
 use tq_tables::{DeskEntry, Entry, Journals, NodeEntry, Replies, TabledJournals, Tables};
-use tq_world::{Citation, CitedEntries, item_at, unfounded_in_desk_ask, unfounded_in_node_ask};
 
 /// All parts of a system, which the tables follow, and beside them a journal of each: its servers, its desk and its
 /// view. Each ask that a part answers is entered into the part's journal with the reply, and changes the rows of the
@@ -53,13 +54,10 @@ impl CitedEntries for Service {
 }
 
 impl Service {
-    ghost use Rattle.tq_world.specs.World as world;
-    ghost use Rattle.tq_world.specs.Steps as spec;
-    ghost use Rattle.tq_world.specs.JournalOf as part_journals;
-    ghost use Rattle.tq_world.specs.CommittedReads.{HasCommittedReads};
-    ghost use Rattle.tq_world.specs.Offered.{OffersBest};
-    ghost use Rattle.tq_world.specs.Headline.{AreOffered, Headline};
-    ghost use Rattle.tq_core.specs.Asked.{answer_of, told_by};
+    ghost use Rattle.tq_core.specs.World as world;
+    ghost use Rattle.tq_core.specs.Steps as spec;
+    ghost use Rattle.tq_core.specs.Headline.{HasCommittedReads, OffersBest, AreOffered, Headline};
+    ghost use Rattle.tq_core.specs.Service.{answer_of, told_by};
 
     /// A service that was asked nothing: each server is up and has stored nothing.
     pub fn new(alloc: Global, levels: Levels, limits: Limits) -> Result<Service, Memory>
@@ -124,8 +122,8 @@ impl Service {
 
     /// The journal of a part, None where there is no such server.
     pub fn journal(&self, part: Part) -> Option<Journal<'_>>
-        ensures { option_map part_journals.entries_of result
-            ≡ part_journals.journal_of self.now part }
+        ensures { option_map world.entries_of result
+            ≡ world.journal_of self.now part }
     {
         match part {
             Part::Server(server) => match self.server_journal(server) {

@@ -1,11 +1,15 @@
--- Sets of servers as ascending lists.
-use Rattle.std.proofs.Common.{◌≡◌, ℕ, ◌+◌, ◌<◌, ◌≤◌, List, [], ◌∷◌, Bool, true, false, ◌||◌, ◌&&◌, eqb, refl, sym, inl, inr, arith, ap, ◌∙◌, subst, sum_by}
-use mathlib.Core.Bool.{and_assoc, and_comm, or_assoc, or_comm}
+-- Sets of servers as ascending lists. A set of servers holds no member exactly if its complement holds one. Servers of
+-- one tree are the same exactly if their numbers are.
+use Rattle.std.proofs.Common.{◌≡◌, ℕ, ◌+◌, ◌<◌, ◌≤◌, List, [], ◌∷◌, Bool, true, false, ◌||◌, ◌&&◌, eqb, refl, sym, inl, inr, arith, ap, ◌∙◌, subst, sum_by, zero, suc, ◌++◌, map, not, nat_eq}
+use mathlib.Core.Bool.{and_assoc, and_comm, or_assoc, or_comm, and-false, and-true, and-or_distrib_left, and-or_distrib_right, not-not, or-false}
 use Rattle.std.proofs.lemmas.Bool.{cases_lt, cases_order, cases_Bool, lt-ltb, le-ltb, eq-eqb, ne_eqb, eqb-true, eqb-false, false≢true, or_parts, or_left, or_right, or_from}
 use Rattle.std.proofs.lemmas.List.Sums.{sum_by-cons}
 use Rattle.std.specs.List.{list_all}
-use Rattle.tq_coterie.specs.Coterie.{with_server, union_of, has}
+use Rattle.tq_coterie.specs.Coterie.{with_server, union_of, has, joined_pairs, members, holds_member, two_of, servers_of, numbers_of, is_same}
 use Rattle.tq_shape.specs.ServerSet.{Ascends}
+use Rattle.std.proofs.lemmas.List.Folds.{list_any-append}
+use Rattle.tq_shape.specs.Tree.{left_of, right_of, Server}
+use Rattle.std.specs.Cmp.Lexicographic.{pointwise}
 
 or_swap : (a b c : Bool) → (a || (b || c)) ≡ (b || (a || c))
 or_swap a b c = sym (or_assoc a b c) ∙ (ap (λ x. x || c) (or_comm a b) ∙ or_assoc b a c)
@@ -146,3 +150,84 @@ joined-nil low (x ∷ xs) up = rw (joined-nil x xs up.1) (with_server-first x xs
     with_server-first : (x : ℕ) (xs : List ℕ) → Ascends x xs → with_server x xs ≡ x ∷ xs
     with_server-first x [] up = refl
     with_server-first x (y ∷ ys) up = rw (lt-ltb x y up.0) refl
+
+-- ---- complement
+
+holds-with : (test : ℕ → Bool) (top : ℕ) (sets : List (List ℕ)) → holds_member test (map (λ q. top ∷ q) sets) ≡ (test top && holds_member test sets)
+holds-with test top [] = sym (and-false (test top))
+holds-with test top (q ∷ sets) =
+    ap (λ b. (test top && list_all test q) || b) (holds-with test top sets) ∙ sym (and-or_distrib_left (test top) (list_all test q) (holds_member test sets))
+
+holds-joined : (test : ℕ → Bool) (q : List ℕ) (rights : List (List ℕ)) → holds_member test (map (union_of q) rights) ≡ (list_all test q && holds_member test rights)
+holds-joined test q [] = sym (and-false (list_all test q))
+holds-joined test q (p ∷ rights) =
+    rw (list_all-joined test q p, holds-joined test q rights) (sym (and-or_distrib_left (list_all test q) (list_all test p) (holds_member test rights)))
+
+holds-pairs : (test : ℕ → Bool) (lefts rights : List (List ℕ)) → holds_member test (joined_pairs lefts rights) ≡ (holds_member test lefts && holds_member test rights)
+holds-pairs test [] rights = refl
+holds-pairs test (q ∷ lefts) rights =
+    list_any-append (list_all test) (map (union_of q) rights) (joined_pairs lefts rights)
+    ∙ (rw (holds-joined test q rights, holds-pairs test lefts rights) (sym (and-or_distrib_right (list_all test q) (holds_member test lefts) (holds_member test rights))))
+
+pub holds-leaf : (test : ℕ → Bool) (top : ℕ) → holds_member test (members zero top) ≡ test top
+unfolding members
+holds-leaf test top = or-false (test top && true) ∙ and-true (test top)
+
+pub holds-fork : (test : ℕ → Bool) (height top : ℕ) → holds_member test (members (suc height) top) ≡ two_of (test top) (holds_member test (members height (left_of top))) (holds_member test (members height (right_of top)))
+unfolding members
+holds-fork test height top =
+    let lefts = members height (left_of top) in
+    let rights = members height (right_of top) in
+    list_any-append (list_all test) (map (λ q. top ∷ q) lefts ++ map (λ p. top ∷ p) rights) (joined_pairs lefts rights)
+    ∙ rw (list_any-append (list_all test) (map (λ q. top ∷ q) lefts) (map (λ p. top ∷ p) rights), holds-with test top lefts, holds-with test top rights, holds-pairs test lefts rights) refl
+
+two_of-not : (a b c : Bool) → two_of (not a) (not b) (not c) ≡ not (two_of a b c)
+two_of-not true true true = refl
+two_of-not true true false = refl
+two_of-not true false true = refl
+two_of-not true false false = refl
+two_of-not false true true = refl
+two_of-not false true false = refl
+two_of-not false false true = refl
+two_of-not false false false = refl
+
+-- what a fork holds, from what its top and its sides hold
+pub holds-from : (set : ℕ → Bool) (height below other top left_top right_top : ℕ) (here left right : Bool) → height ≡ suc below → height ≡ suc other → left_top ≡ left_of top → right_top ≡ right_of top → set top ≡ here → left ≡ holds_member set (members below left_top) → right ≡ holds_member set (members other right_top) → two_of here left right ≡ holds_member set (members height top)
+holds-from set height below other top left_top right_top here left right left_height right_height left_is right_is chosen left_holds right_holds =
+    let same : other ≡ below = omega (arith, left_height, right_height) in
+    rw (left_holds, right_holds, ← chosen, left_is, right_is, same, left_height) (sym (holds-fork set below top))
+
+-- exactly one of a set and its complement holds a member
+pub holds-complement : (test : ℕ → Bool) (height top : ℕ) → holds_member (λ s. not (test s)) (members height top) ≡ not (holds_member test (members height top))
+holds-complement test zero top = holds-leaf (λ s. not (test s)) top ∙ sym (ap not (holds-leaf test top))
+holds-complement test (suc height) top =
+    rw (holds-fork (λ s. not (test s)) height top, holds-complement test height (left_of top), holds-complement test height (right_of top), two_of-not (test top) (holds_member test (members height (left_of top))) (holds_member test (members height (right_of top))))
+    (sym (ap not (holds-fork test height top)))
+
+pub holds-at_leaf : (set : ℕ → Bool) (height top : ℕ) (here : Bool) → height ≡ 0 → set top ≡ here → here ≡ holds_member set (members height top)
+holds-at_leaf set height top here low chosen = rw (low, ← chosen) (sym (holds-leaf set top))
+
+-- as exactly one of the two holds a member, each says what the other does not
+pub holds-otherwise : (set : ℕ → Bool) (height top : ℕ) (answer : Bool) → answer ≡ holds_member set (members height top) → answer ≡ not (holds_member (λ s. not (set s)) (members height top))
+holds-otherwise set height top answer is = is ∙ sym (ap not (holds-complement set height top) ∙ not-not (holds_member set (members height top)))
+
+-- ---- sameness
+
+-- an equality of servers compares, in one tree, the numbers alone
+abbrev pub ComparesNumbers : (Server → Server → Bool) → Type 0
+ComparesNumbers equal = (levels some other : ℕ) → equal (record { number = some; levels = levels }) (record { number = other; levels = levels }) ≡ nat_eq some other
+
+pointwise-servers_of : (equal : Server → Server → Bool) (levels : ℕ) (some others : List ℕ) → ComparesNumbers equal → pointwise equal (servers_of levels some) (servers_of levels others) ≡ pointwise nat_eq some others
+pointwise-servers_of equal levels [] [] numbers = refl
+pointwise-servers_of equal levels [] (y ∷ ys) numbers = refl
+pointwise-servers_of equal levels (x ∷ xs) [] numbers = refl
+pointwise-servers_of equal levels (x ∷ xs) (y ∷ ys) numbers =
+    rw (numbers levels x y, pointwise-servers_of equal levels xs ys numbers) refl
+
+pub same-servers : (equal : Server → Server → Bool) (levels other_levels : ℕ) (servers others : List Server) → ComparesNumbers equal → servers ≡ servers_of levels (numbers_of servers) → others ≡ servers_of other_levels (numbers_of others) → eqb levels other_levels ≡ true → pointwise equal servers others ≡ is_same (record { servers = numbers_of servers; levels = levels }) (record { servers = numbers_of others; levels = other_levels })
+same-servers equal levels other_levels servers others numbers in_tree in_other same =
+    let one : levels ≡ other_levels = eqb-true levels other_levels same in
+    let P : List Server → Type 0 = λ xs. pointwise equal servers others ≡ pointwise equal xs others in
+    let Q : List Server → Type 0 = λ ys. pointwise equal servers others ≡ pointwise equal (servers_of levels (numbers_of servers)) ys in
+    let there : others ≡ servers_of levels (numbers_of others) = rw (← one) at in_other in
+    rw same (subst Q there (subst P in_tree refl) ∙ pointwise-servers_of equal levels (numbers_of servers) (numbers_of others) numbers)

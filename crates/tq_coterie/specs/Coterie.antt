@@ -3,8 +3,7 @@ use Rattle.std.specs.Prelude.{ℕ, ◌-◌, ◌≤◌, zero, suc, ◌≡◌, Boo
 use Rattle.std.specs.Cmp.Lexicographic.{pointwise}
 use Rattle.std.specs.List.{find, flat_map, list_any, list_all, Contains}
 use Rattle.std.specs.Option.{SomeIff}
-use Rattle.tq_shape.specs.Tree.{Server, left_of, right_of}
-use Rattle.tq_shape.specs.Depth.{height_at}
+use Rattle.tq_shape.specs.Tree.{Server, left_of, right_of, height_at}
 
 -- A set of servers is the ascending list of their numbers.
 

@@ -1,8 +1,9 @@
-//! Whether a set of servers holds a quorum.
+//! Whether a set of servers holds a quorum: how it stands to a subtree.
 
 ghost use Rattle.std.specs.Prelude.{◌≡◌, not};
 ghost use Rattle.tq_coterie.specs.Coterie.{complement_of, has, holds_member, members_under};
 ghost use Rattle.tq_coterie.specs.Coterie as spec;
+ghost use Rattle.tq_coterie.specs.Parts.{part_from_sides, member_or_empty};
 
 use tq_shape::{Levels, ServerId};
 
@@ -35,4 +36,27 @@ fn two_of(top: bool, left: bool, right: bool) -> bool
     ensures { result ≡ spec.two_of top left right }
 {
     (top && (left || right)) || (left && right)
+}
+
+/// How a set of servers stands to a subtree.
+#[derive(Clone, Copy, Debug, PartialEq, Eq)]
+pub(crate) enum Overlap {
+    /// No server of the subtree is in the set.
+    Empty,
+    /// The servers of the subtree that are in the set are a member of it.
+    Member,
+    /// They are neither.
+    Neither,
+}
+
+/// How the set stands to the subtree over a server, from whether it has that server, and whether it has a member of
+/// the left side and of the right. It has no others of the sides.
+pub(crate) fn part_of_fork(chosen: bool, left: bool, right: bool) -> Overlap
+    ensures { result ≡ part_from_sides chosen (member_or_empty left) (member_or_empty right) }
+{
+    match (chosen, left, right) {
+        (true, true, false) | (true, false, true) | (false, true, true) => Overlap::Member,
+        (false, false, false) => Overlap::Empty,
+        _ => Overlap::Neither,
+    }
 }

@@ -6,7 +6,7 @@
 //!
 //! Nothing here lists the members: a tree of six levels has over four billion.
 //!
-//! Definitions: `specs/Coterie`; `Parts` and `Marks` are the code's own words.
+//! Definitions: `specs/Coterie`; `Parts` is the code's own word.
 #![tactic(auto)]
 
 mod holding;
@@ -14,7 +14,6 @@ mod marks;
 mod meeting;
 mod member;
 mod membership;
-mod overlap;
 
 pub use holding::holds_quorum;
 pub use meeting::meet;

@@ -2,11 +2,10 @@
 
 ghost use Rattle.std.specs.Prelude.{◌≡◌, ◌+◌, ◌*◌, ◌^◌, ◌<◌, ◌==◌, ◌||◌, ℕ, All, false, slice_index};
 ghost use Rattle.std.specs.Bool.{OnTrue, OnFalse};
-ghost use Rattle.tq_shape.specs.Depth.{height_of};
-ghost use Rattle.tq_coterie.specs.Parts.{part_of};
-ghost use Rattle.tq_coterie.specs.Marks.{is_marked, part_at, AreMarksOf, HasMarkMore, HasNoMarkBetween, IsBare, IsRaised};
+ghost use Rattle.tq_shape.specs.Tree.{height_of};
+ghost use Rattle.tq_coterie.specs.Parts.{part_of, is_marked, part_at, AreMarksOf, HasMarkMore, HasNoMarkBetween, IsBare, IsRaised};
 
-use crate::overlap::{Overlap, part_of_fork};
+use crate::holding::{Overlap, part_of_fork};
 use tq_shape::ServerId;
 
 /// How many words hold the marks of the servers of every tree, 64 to a word.

@@ -6,8 +6,8 @@ ghost use Rattle.tq_coterie.specs.Coterie.{coterie};
 ghost use Rattle.tq_shape.specs.ServerSet.{Ascends};
 ghost use Rattle.tq_coterie.specs.Coterie as spec;
 
+use crate::holding::Overlap;
 use crate::marks::part_under_root;
-use crate::overlap::Overlap;
 use tq_shape::Levels;
 
 /// Whether the numbers are, in this order, the servers of a quorum. It takes no memory.

@@ -8,7 +8,7 @@ use Rattle.std.specs.FinMap.{nat_cmp-IsAntisymmetric}
 use Rattle.std.proofs.lemmas.Cmp.{tied_itself}
 use Rattle.std.proofs.lemmas.Bool.Decides.{nat_tests}
 use Rattle.std.proofs.lemmas.Bool.{cases_Bool, cond-true, cond-false, false≢true, not-false}
-use Rattle.tq_shape.specs.Journal.{Has}
+use Rattle.tq_shape.specs.Journal.{Has, refuse, state_at, refuse-none}
 use Rattle.tq_coterie.specs.Coterie.{is_quorum}
 use Rattle.tq_asks.specs.declared.ask.Verdict.{Verdict}
 use Rattle.tq_asks.specs.declared.ask.Verdict.TheVariants as verdicts
@@ -22,16 +22,12 @@ use Rattle.tq_evidence.specs.declared.op.Op.{Op}
 use Rattle.tq_evidence.specs.declared.vote.Vote.{Vote}
 use Rattle.tq_evidence.specs.Evidence.{failed_rule, IsGood}
 use Rattle.tq_desk.specs.DeskStep.{DeskView, Finals, is_begun, cited_votes, finals_after_resolve, desk_refusal, final_or_abort, desk_answer, desk_answered, reply_at, desk_reply, desk_after}
-use Rattle.tq_shape.specs.Steps.{refuse, state_at}
-use Rattle.tq_desk.specs.DeskJournal.{DeskBounds, DeskEntry, desk_state, IsLegalDesk, final, Commit, with_commit, commits, gives_verdict, VerdictAt}
+use Rattle.tq_desk.specs.DeskJournal.{DeskBounds, DeskEntry, desk_state, IsLegalDesk, final, Commit, with_commit, commits, gives_verdict, VerdictAt, DeskLaws, IsCited, IsShown}
 use Rattle.tq_desk.specs.DecisionLog.{EndsAreTold}
-use Rattle.tq_desk.specs.Laws.{DeskLaws, IsCited, IsShown}
 use Rattle.tq_shape.proofs.Places.{at-cases, at-old, at-new, Some-same}
 use Rattle.tq_desk.proofs.Shown.{shown_by}
-use Rattle.tq_desk.proofs.Refusals.{commit_decided, commit_open}
-use Rattle.tq_desk.proofs.DecisionLog.{desk_keeps, ends_stay}
-use Rattle.tq_shape.specs.Unrefused.{refuse-none}
-use Rattle.tq_shape.proofs.Orderings.{is_eq-Equal}
+use Rattle.tq_desk.proofs.DecisionLog.{commit_decided, commit_open, desk_keeps, ends_stay}
+use Rattle.tq_shape.proofs.Options.{is_eq-Equal}
 
 -- ---- commits
 

@@ -20,10 +20,10 @@ use Rattle.tq_evidence.specs.declared.vote.Vote.{Vote}
 use Rattle.tq_evidence.specs.Evidence.{is_write, servers_of, has_server, rises, are_quorums, are_exclusive, covers, are_covered, place_of, put_op, writes_by_file, is_write_of, are_writes_at, have_writes, greatest, stands_before, ops_rise, reads_copy, has_version, have_versions, rule_unless, IsGood}
 use Rattle.tq_store.specs.Names.{same_name}
 use Rattle.tq_evidence.specs.Evidence as evidence
-use Rattle.tq_desk.specs.Laws.{HasTop, IsCovered, IsShown}
-use Rattle.tq_evidence.proofs.WriteOps.{Has-put, put-Has}
+use Rattle.tq_desk.specs.DeskJournal.{HasTop, IsCovered, IsShown}
+use Rattle.tq_evidence.proofs.HeldTable.{Has-put, put-Has}
 use Rattle.tq_shape.proofs.Places.{Has-filter, filter-Has, Has-map, any-Has, Has-any, all-Has, find-Has}
-use Rattle.tq_store.proofs.SameName.{same_name-is}
+use Rattle.tq_store.proofs.Padded.{same_name-is}
 
 -- ---- the rules that hold
 

@@ -16,7 +16,7 @@ use Rattle.tq_desk.specs.declared.ask.DeskReply.TheVariants.{Txn, Verdict, Commi
 use Rattle.tq_evidence.specs.declared.op.Op.{Op}
 use Rattle.tq_evidence.specs.declared.vote.Vote.{Vote}
 use Rattle.tq_evidence.specs.Evidence.{failed_rule, is_write}
-use Rattle.tq_shape.specs.Steps.{refuse, refuse_for, state_at}
+use Rattle.tq_shape.specs.Journal.{refuse, refuse_for, state_at}
 
 -- how each transaction ended that has
 abbrev pub Finals : Type 0

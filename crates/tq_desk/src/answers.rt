@@ -2,13 +2,12 @@
 
 use crate::{Desk, DeskAsk, DeskChange, DeskReply};
 use std::alloc::Global;
-use tq_part::{Answers, Plan};
-use tq_shape::Memory;
+use tq_shape::{Answers, Memory, Plan};
 
 impl Answers for Desk {
     ghost use Rattle.std.specs.Prelude.{◌<◌};
     ghost use Rattle.tq_desk.specs.DeskStep.{desk_reply, desk_after, opening_desk as opened};
-    ghost use Rattle.tq_desk.specs.DeskChanges.{desk_change, desk_changed, DeskFits};
+    ghost use Rattle.tq_desk.specs.DeskPlans.{desk_change, desk_changed, DeskFits};
     ghost use Rattle.tq_desk.specs.DeskPlans as step;
 
     type Ask = DeskAsk;

@@ -1,24 +1,22 @@
-//! The desk, by plan and change.
+//! The desk, by plan and change: what an ask changes.
 
 ghost use Rattle.std.specs.Prelude.{◌≡◌, ◌+◌, ◌<◌, ◌^◌, IfOk, OnOk, OnErr, None, [], true};
 ghost use Rattle.std.specs.FinMap as fin;
 ghost use Rattle.std.specs.Option.{option_copied};
 ghost use Rattle.tq_desk.specs.DeskJournal.{desk_state};
 ghost use Rattle.tq_desk.specs.DecisionLog.{AnswersByLogs, BeginsByLog, EndsByLog};
-ghost use Rattle.tq_desk.specs.DeskChanges.{desk_change, desk_changed, with_commit};
-ghost use Rattle.tq_desk.specs.DeskChanges.{DeskFits, IsDeskPlan};
+ghost use Rattle.tq_desk.specs.DeskPlans.{desk_change, desk_changed, with_commit, DeskFits, IsDeskPlan};
 ghost use Rattle.tq_evidence.specs.Evidence.{ops_rise};
 ghost use Rattle.tq_desk.specs.DeskStep as spec;
 
 use crate::files::{WrittenFiles, written_names};
 use crate::finals::Finals;
-use crate::{DeskAsk, DeskChange, DeskRefusal, DeskReply};
+use crate::{DeskAsk, DeskRefusal, DeskReply};
 use std::alloc::Global;
 use std::marker::Model;
 use tq_asks::{CitedVote, Verdict};
 use tq_evidence::{Op, Vote, failed_rule};
-use tq_part::Plan;
-use tq_shape::{Levels, Limits, Memory, Seq, SharedSeq};
+use tq_shape::{Levels, Limits, Memory, Plan, Seq, SharedSeq};
 use tq_store::FileName;
 
 /// The desk: it begins transactions and keeps how each ended.
@@ -35,7 +33,7 @@ impl Model for Desk {
     ghost use Rattle.std.specs.Prelude.{◌≤◌};
     ghost use Rattle.std.specs.FinMap as map;
     ghost use Rattle.tq_desk.specs.DeskStep.{DeskView};
-    ghost use Rattle.tq_desk.specs.Views.{desk_code};
+    ghost use Rattle.tq_desk.specs.DeskJournal.{desk_code};
     ghost use Rattle.tq_asks.specs.contracts.ask.Verdict as verdict_type;
 
     ghost Value = { DeskView };
@@ -359,4 +357,25 @@ fn citation(vote: &Vote) -> CitedVote
         server: vote.server,
         number: vote.number,
     }
+}
+
+/// What an ask changes in a desk.
+#[derive(Drop)]
+pub enum DeskChange {
+    /// The ask is refused, or only looks.
+    Nothing,
+    /// The transaction begins.
+    Begin {
+        txn: u64,
+    },
+    /// The transaction, which had not ended, aborts.
+    Abort {
+        txn: u64,
+    },
+    /// The transaction, which had not ended, commits on these votes and writes these files.
+    Commit {
+        txn: u64,
+        votes: SharedSeq<CitedVote>,
+        files: Seq<FileName>,
+    },
 }

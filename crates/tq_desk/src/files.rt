@@ -3,7 +3,7 @@
 ghost use Rattle.std.specs.Prelude.{◌≡◌, ◌+◌, ◌<◌, ◌≤◌, IfOk, OnOk, is_some, length};
 ghost use Rattle.std.specs.FinMap as fin;
 ghost use Rattle.tq_desk.specs.DeskStep as spec;
-ghost use Rattle.tq_desk.specs.DeskChanges.{names_written, with_names};
+ghost use Rattle.tq_desk.specs.DeskPlans.{names_written, with_names};
 
 use std::alloc::Global;
 use std::marker::Model;
@@ -20,7 +20,7 @@ pub(crate) struct WrittenFiles {
 impl Model for WrittenFiles {
     ghost use Rattle.std.specs.FinMap as map;
     ghost use Rattle.indexmap.specs.IndexMap.{spare};
-    ghost use Rattle.tq_desk.specs.Views.{FilesView, files_view_code};
+    ghost use Rattle.tq_desk.specs.DeskJournal.{FilesView, files_view_code};
 
     ghost Value = { FilesView };
 

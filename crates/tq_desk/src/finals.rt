@@ -19,7 +19,7 @@ pub(crate) struct Finals {
 impl Model for Finals {
     ghost use Rattle.std.specs.FinMap as map;
     ghost use Rattle.indexmap.specs.IndexMap.{spare};
-    ghost use Rattle.tq_desk.specs.Views.{FinalsView, finals_view_code};
+    ghost use Rattle.tq_desk.specs.DeskJournal.{FinalsView, finals_view_code};
     ghost use Rattle.tq_asks.specs.contracts.ask.Verdict as verdict_type;
 
     ghost Value = { FinalsView };

@@ -1,9 +1,7 @@
 //! Functions without a body: their contracts are the laws of a desk's journal.
 
-ghost use Rattle.tq_desk.specs.DeskJournal.{DeskBounds};
-ghost use Rattle.tq_desk.specs.DecisionLog.{AreWritten, EndsAreTold, EndsStay};
-ghost use Rattle.tq_desk.specs.DecisionLog.{KeepsJournals, LegalIsLog, LogIsLegal};
-ghost use Rattle.tq_desk.specs.Laws.{DeskLaws};
+ghost use Rattle.tq_desk.specs.DeskJournal.{DeskBounds, DeskLaws};
+ghost use Rattle.tq_desk.specs.DecisionLog.{AreWritten, EndsAreTold, EndsStay, KeepsJournals, LegalIsLog, LogIsLegal};
 
 /// The journals of a desk, as the desk's step has them, are the decision logs: each reply is what the entries before
 /// it say. After each the desk keeps what the journal says, and an end once recorded stays and is told.

@@ -1,6 +1,6 @@
 //! What bytes come from and go to: in memory, or over readers and writers.
 //!
-//! Definitions: `specs/Devices`, `Faults`.
+//! Definitions: `specs/Devices`.
 #![tactic(auto)]
 
 mod device;

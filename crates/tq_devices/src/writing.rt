@@ -1,7 +1,7 @@
 //! All bytes written to a sink.
 
 ghost use Rattle.std.specs.Prelude.{◌^◌, ◌-◌, ◌<◌};
-ghost use Rattle.tq_devices.specs.Faults.{IsWritten};
+ghost use Rattle.tq_devices.specs.Devices.{IsWritten};
 
 use crate::device::{Failed, Sink};
 use crate::fault::RunFault;

@@ -1,16 +1,46 @@
--- The table of a vote's locks tells whether one is held since.
-use Rattle.std.specs.Prelude.{◌&&◌, ◌||◌, nat_le, min}
-use Rattle.std.proofs.Common.{◌≡◌, ℕ, Bool, true, false, cond, List, [], ◌∷◌, Option, Some, None, arith, refl, ap, sym, ◌∙◌}
+-- A map by name, as the finite map that contracts see. The table of a vote's locks tells whether one is held since.
+-- The write ops in order by file are those ops.
+use Rattle.std.proofs.Common.{◌≡◌, ℕ, cond, List, [], ◌∷◌, Some, refl, ap, sym, ◌∙◌, Bool, true, false, Option, None, arith, take, drop, fold, filter, subst, ◌⊎◌, inl, inr}
+use Rattle.std.specs.BTreeMap as ordered
+use Rattle.std.specs.BTreeMap.{BTreeMap, is_at}
 use Rattle.std.specs.Cmp.{eq_by_cmp_equiv}
 use Rattle.std.specs.Cmp.Lexicographic.{nat_list_cmp_total, texts_ties}
-use Rattle.std.specs.FinMap as fin
-use Rattle.std.specs.List.{list_any}
-use Rattle.std.proofs.lemmas.Bool.Decides.{nat_tests}
+use Rattle.std.specs.List.{insert as put_into, list_any, list_all}
+use Rattle.std.specs.FinMap.{find, get, insert, from_entries, get-from_entries, get-insert, same_map, nat_cmp-IsAntisymmetric, slice_cmp-IsAntisymmetric}
+use Rattle.std.specs.Map.{lookup}
+use Rattle.std.specs.Ordering.{eq_by_cmp}
 use Rattle.tq_store.specs.Copies.{name_cmp}
+use Rattle.std.specs.Prelude.{◌&&◌, ◌||◌, nat_le, min}
+use Rattle.std.specs.FinMap as fin
+use Rattle.std.proofs.lemmas.Bool.Decides.{nat_tests}
 use Rattle.tq_asks.specs.declared.ask.HeldLock.{HeldLock}
 use Rattle.tq_store.specs.Names.{same_name}
-use Rattle.tq_evidence.specs.Held.{LeastSince, is_since, least_since, lesser, with_since, noted_all}
-use Rattle.tq_store.proofs.SameName.{same_name-is}
+use Rattle.tq_evidence.specs.Evidence.{LeastSince, is_since, least_since, lesser, with_since, noted_all, is_write, place_of, put_op, rises, servers_of, writes_by_file, are_in_order}
+use Rattle.tq_store.proofs.Padded.{same_name-is}
+use Rattle.std.specs.Cmp.Derive.{both_true}
+use Rattle.std.proofs.lemmas.List.{take-append-drop}
+use Rattle.tq_shape.specs.Journal.{Has}
+use Rattle.tq_evidence.specs.declared.op.Op.{Op}
+use Rattle.tq_shape.proofs.Places.{Has-append, append-Has, all-Has, Has-filter}
+
+module _ {X : Type 0} where
+  find_at : (q : List ℕ) (es : List (List ℕ × X)) → find name_cmp q es ≡ lookup (is_at (name_cmp q)) es
+  find_at q [] = refl
+  find_at q (e ∷ es) = ap (cond (is_at (name_cmp q) e.0) (Some e.1)) (find_at q es)
+
+  -- what the finite map has at a name
+  pub get_at : (map : BTreeMap (List ℕ) X) (q : List ℕ) → ordered.get name_cmp map q ≡ get (from_entries {R = name_cmp} map.entries) q
+  get_at map q = sym (get-from_entries nat_list_cmp_total map.entries q ∙ find_at q map.entries)
+
+  -- a map with one more value is the finite map with it
+  pub put_at : (old new : BTreeMap (List ℕ) X) (name : List ℕ) (x : X) → ordered.Updates name_cmp old new name (Some x) → from_entries {R = name_cmp} new.entries ≡ insert (from_entries old.entries) name x
+  put_at old new name x updates = same_map nat_list_cmp_total (slice_cmp-IsAntisymmetric nat_cmp-IsAntisymmetric) _ _ (λ q.
+      sym (get_at new q) ∙ updates.0 q
+      ∙ ap (λ b. cond b (Some x) (ordered.get name_cmp old q)) ((eq_by_cmp_equiv nat_list_cmp_total).symm name q)
+      ∙ ap (cond (eq_by_cmp name_cmp q name) (Some x)) (get_at old q)
+      ∙ sym (get-insert nat_list_cmp_total (from_entries old.entries) name x q))
+
+-- ---- held table
 
 min-le : (known since number : ℕ) → nat_le (min since known) number ≡ (nat_le known number || nat_le since number)
 min-le known since number = grind (arith, nat_tests)
@@ -61,3 +91,55 @@ pub is_since-least_since : (held : List HeldLock) (file : List ℕ) (number : �
 is_since-least_since held file number =
     is_since-noted_all held fin.empty file number
     ∙ ap (λ o. is_since o number || list_any (λ (l : HeldLock). same_name l.file file && nat_le l.since number) held) (fin.get-empty name_cmp file)
+
+-- ---- write ops
+
+Has-take_drop : {A : Type 0} (n : ℕ) (xs : List A) (x : A) → Has (take n xs) x ⊎ Has (drop n xs) x → Has xs x
+Has-take_drop {A} n xs x h = subst (λ (ys : List A). Has ys x) (take-append-drop n xs) (append-Has (take n xs) (drop n xs) x h)
+
+take_drop-Has : {A : Type 0} (n : ℕ) (xs : List A) (x : A) → Has xs x → Has (take n xs) x ⊎ Has (drop n xs) x
+take_drop-Has {A} n xs x h = Has-append (take n xs) (drop n xs) x (subst (λ (ys : List A). Has ys x) (sym (take-append-drop n xs)) h)
+
+Has-insert : {A : Type 0} (xs : List A) (n : ℕ) (x y : A) → Has (put_into xs n x) y → (x ≡ y) ⊎ Has xs y
+Has-insert xs n x y h =
+    elim (Has-append (take n xs) (x ∷ drop n xs) y h) [
+      | inl l ↦ inr (Has-take_drop n xs y (inl l))
+      | inr (inl e) ↦ inl e
+      | inr (inr r) ↦ inr (Has-take_drop n xs y (inr r))
+    ]
+
+insert-Has : {A : Type 0} (xs : List A) (n : ℕ) (x y : A) → (x ≡ y) ⊎ Has xs y → Has (put_into xs n x) y
+insert-Has xs n x y (inl e) = append-Has (take n xs) (x ∷ drop n xs) y (inr (inl e))
+insert-Has xs n x y (inr h) =
+    elim (take_drop-Has n xs y h) [
+      | inl l ↦ append-Has (take n xs) (x ∷ drop n xs) y (inl l)
+      | inr r ↦ append-Has (take n xs) (x ∷ drop n xs) y (inr (inr r))
+    ]
+
+pub Has-put : (ops done : List Op) (x : Op) → Has (fold put_op done ops) x → Has done x ⊎ Has ops x
+Has-put [] done x h = inl h
+Has-put (op ∷ ops) done x h =
+    elim (Has-put ops (put_op done op) x h) [
+      | inl l ↦ elim (Has-insert done (place_of op.file done) op x l) [ inl e ↦ inr (inl e) | inr k ↦ inl k ]
+      | inr r ↦ inr (inr r)
+    ]
+
+pub put-Has : (ops done : List Op) (x : Op) → Has done x ⊎ Has ops x → Has (fold put_op done ops) x
+put-Has [] done x (inl h) = h
+put-Has [] done x (inr h) = absurd h
+put-Has (op ∷ ops) done x (inl h) = put-Has ops (put_op done op) x (inl (insert-Has done (place_of op.file done) op x (inr h)))
+put-Has (op ∷ ops) done x (inr (inl e)) = put-Has ops (put_op done op) x (inl (insert-Has done (place_of op.file done) op x (inl e)))
+put-Has (op ∷ ops) done x (inr (inr h)) = put-Has ops (put_op done op) x (inr h)
+
+Has-all : {A : Type 0} (p : A → Bool) (xs : List A) → ((x : A) → Has xs x → p x ≡ true) → list_all p xs ≡ true
+Has-all p [] each = refl
+Has-all p (x ∷ xs) each = both_true (each x (inl refl)) (Has-all p xs (λ y h. each y (inr h)))
+
+-- the write ops are in order, as the ops are
+pub in_order-writes : (ops : List Op) → are_in_order ops ≡ true → are_in_order (writes_by_file ops) ≡ true
+in_order-writes ops rise = Has-all (λ (op : Op). rises (servers_of op)) (writes_by_file ops) (λ op h.
+    all-Has (λ (op : Op). rises (servers_of op)) ops rise op (Has-filter is_write ops op (from_none (Has-put (filter is_write ops) [] op h))).0)
+  where
+    from_none : {X : Type 0} → ⊥ ⊎ X → X
+    from_none (inl none) = absurd none
+    from_none (inr x) = x

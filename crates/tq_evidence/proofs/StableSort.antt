@@ -1,23 +1,45 @@
--- A stable sort of ops by file, behind references, is the insertion of each after those of its file.
-use Rattle.std.specs.Prelude.{◌&&◌, not, ◌≤◌}
-use Rattle.std.proofs.Common.{◌≡◌, ℕ, suc, ◌<◌, ◌+◌, Bool, true, false, cond, List, [], ◌∷◌, ◌++◌, Some, None, map, filter, fold, length, get_or, nat_lt, arith, refl, sym, ap, subst, ◌∙◌, ◌⊎◌, inl, inr, append_assoc}
+-- Ops put in order by file, also behind references. A stable sort of ops by file, behind references, is the insertion
+-- of each after those of its file.
+use Rattle.std.proofs.Common.{◌≡◌, ℕ, ◌+◌, Bool, not, cond, List, [], ◌∷◌, ◌++◌, Some, None, map, take, drop, nat_lt, refl, sym, ap, ◌∙◌, suc, ◌<◌, true, false, filter, fold, length, get_or, arith, subst, ◌⊎◌, inl, inr, append_assoc}
 use Rattle.std.specs.List.{insert, prefix_len}
-use Rattle.std.specs.List.Sorted.{IsSortedByKey, IsStableByKey}
 use Rattle.std.specs.Option.{unwrap_or}
 use Rattle.std.specs.Ordering.{is_gt, is_lt, ordering_reverse}
+use Rattle.std.proofs.lemmas.List.{map-append, take-map, drop-map, length-map, append-nil}
+use Rattle.tq_store.specs.Copies.{name_cmp}
+use Rattle.tq_evidence.specs.declared.op.Op.{Op}
+use Rattle.tq_evidence.specs.Evidence.{place_among, place_of, put_op}
+use Rattle.std.specs.Prelude.{◌&&◌, ◌≤◌}
+use Rattle.std.specs.List.Sorted.{IsSortedByKey, IsStableByKey}
 use Rattle.std.specs.declared.cmp.Ordering.{Ordering}
 use Rattle.std.specs.declared.cmp.Ordering.TheVariants.{Less, Equal, Greater}
 use Rattle.std.proofs.lemmas.Bool.{and_parts, true≢false}
 use Rattle.std.proofs.lemmas.Cmp.{upto, tied_itself, nat_list_cmp_total}
-use Rattle.std.proofs.lemmas.List.{append-nil}
 use Rattle.std.proofs.lemmas.List.Sorted.{ranks_by, sorted_far}
 use Rattle.std.proofs.lemmas.Bool.Decides.{nat_tests}
 use Rattle.tq_shape.specs.Journal.{Has}
-use Rattle.tq_store.specs.Copies.{name_cmp}
-use Rattle.tq_evidence.specs.declared.op.Op.{Op}
-use Rattle.tq_evidence.specs.Evidence.{place_among, put_op}
-use Rattle.tq_evidence.proofs.Sorting.{put-now}
 use Rattle.tq_shape.proofs.Places.{Has-filter}
+
+module _ {X : Type 0} (now : X → Op) where
+  prefix_len-now : (p : Op → Bool) (xs : List X) → prefix_len p (map now xs) ≡ prefix_len (λ x. p (now x)) xs
+  prefix_len-now p [] = refl
+  prefix_len-now p (x ∷ xs) = ap (λ n. cond (p (now x)) (1 + n) 0) (prefix_len-now p xs)
+
+  place-now : (file : List ℕ) (xs : List X) → place_among now file xs ≡ place_of file (map now xs)
+  place-now file xs =
+      let places = sym (prefix_len-now (λ op. not (is_gt (name_cmp op.file file))) xs) in
+      let lengths = sym (length-map xs now) in
+      λ i. unwrap_or (cond (nat_lt (places i) (lengths i)) (Some (places i)) None) (lengths i)
+
+  insert-now : (xs : List X) (place : ℕ) (x : X) → map now (insert xs place x) ≡ insert (map now xs) place (now x)
+  insert-now xs place x =
+      map-append now (take place xs) (x ∷ drop place xs)
+      ∙ (λ i. sym (take-map now place xs) i ++ now x ∷ sym (drop-map now place xs) i)
+
+  -- an op put in its place behind references
+  pub put-now : (xs : List X) (x : X) → map now (insert xs (place_among now (now x).file xs) x) ≡ put_op (map now xs) (now x)
+  put-now xs x = insert-now xs (place_among now (now x).file xs) x ∙ ap (λ place. insert (map now xs) place (now x)) (place-now (now x).file xs)
+
+-- ---- stable sort
 
 -- ---- the order of names
 

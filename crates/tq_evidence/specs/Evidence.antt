@@ -1,5 +1,10 @@
--- The evidence of a commit: what its grants and votes have to show, rule by rule. A predicate on one ask alone.
-use Rattle.std.specs.Prelude.{◌≡◌, ◌+◌, ℕ, Bool, true, false, not, ◌&&◌, ◌||◌, ◌==◌, nat_lt, nat_le, max, List, [], ◌∷◌, map, filter, fold, length, position, Option, Some, None, if◌then◌else◌}
+-- The six rules of evidence by their numbers. The evidence of a commit: what its grants and votes have to show, rule
+-- by rule. A predicate on one ask alone. Evidence gone through in order: each op's grants strictly ascend by server,
+-- and so do the votes. The locks that a vote lists, put in a table by file: for each file the least number that it is
+-- held since.
+use Rattle.std.specs.Prelude.{ℕ, ◌==◌, cond, Option, Some, None, ◌≡◌, ◌+◌, Bool, true, false, not, ◌&&◌, ◌||◌, nat_lt, nat_le, max, List, [], ◌∷◌, map, filter, fold, length, position, if◌then◌else◌, min}
+use Rattle.tq_evidence.specs.declared.rule.Rule.{Rule}
+use Rattle.tq_evidence.specs.declared.rule.Rule.TheVariants.{Quorum, Exclusive, Covered, Writes, Versions, SomeOp}
 use Rattle.std.specs.Cmp.Lexicographic.{pointwise}
 use Rattle.std.specs.List.{list_any, list_all, find, insert}
 use Rattle.std.specs.Option.{unwrap_or}
@@ -11,10 +16,32 @@ use Rattle.tq_coterie.specs.Coterie.{is_quorum}
 use Rattle.tq_evidence.specs.declared.grant.Grant.{Grant}
 use Rattle.tq_evidence.specs.declared.op.Op.{Op}
 use Rattle.tq_evidence.specs.declared.op.OpKind.TheVariants.{Read, Write}
-use Rattle.tq_evidence.specs.declared.rule.Rule.{Rule}
 use Rattle.tq_evidence.specs.declared.rule.Rule.TheVariants as rules
 use Rattle.tq_evidence.specs.declared.vote.Vote.{Vote}
 use Rattle.tq_store.specs.Names.{same_name}
+use Rattle.std.specs.Coded.{Coded, coded_list, coded_ℕ}
+use Rattle.std.specs.FinMap as fin
+use Rattle.tq_asks.specs.declared.ask.HeldLock.{HeldLock}
+
+abbrev pub rule_number : Rule → ℕ
+rule_number Quorum = 1
+rule_number Exclusive = 2
+rule_number Covered = 3
+rule_number Writes = 4
+rule_number Versions = 5
+rule_number SomeOp = 6
+
+-- the rule of that number
+abbrev pub rule_at : ℕ → Option Rule
+rule_at number =
+    cond (number == 1) (Some Quorum)
+    (cond (number == 2) (Some Exclusive)
+    (cond (number == 3) (Some Covered)
+    (cond (number == 4) (Some Writes)
+    (cond (number == 5) (Some Versions)
+    (cond (number == 6) (Some SomeOp) None)))))
+
+-- ---- evidence
 
 abbrev pub is_write : Op → Bool
 is_write op = elim op.kind [ Read ↦ false | Write ↦ true ]
@@ -174,3 +201,58 @@ failed_rule levels ops votes =
 -- the evidence is good
 abbrev pub IsGood : ℕ → List Op → List Vote → Type 0
 IsGood levels ops votes = failed_rule levels ops votes ≡ None
+
+-- ---- in order
+
+-- each op's servers strictly ascend
+abbrev pub are_in_order : List Op → Bool
+are_in_order ops = list_all (λ op. rises (servers_of op)) ops
+
+abbrev pub is_granter : List Grant → ℕ → Bool
+is_granter grants server = list_any (λ grant. grant.server == server) grants
+
+-- the votes cover the grants: both walked through together, each vote looked at once
+abbrev pub walk : List ℕ → List Vote → List Grant → Bool
+walk file [] [] = true
+walk file [] (grant ∷ grants) = false
+walk file (vote ∷ votes) [] = true
+walk file (vote ∷ votes) (grant ∷ grants) =
+    if nat_lt vote.server grant.server then walk file votes (grant ∷ grants) else covers file grant vote && walk file votes grants
+
+abbrev pub is_walked : List Vote → Op → Bool
+is_walked votes op = walk op.file votes op.grants
+
+abbrev pub are_walked : List Vote → List Op → Bool
+are_walked votes ops = list_all (is_walked votes) ops
+
+-- ---- held
+
+abbrev pub LeastSince : Type 0
+LeastSince = fin.FinMap name_cmp ℕ
+
+abbrev pub least_code : Coded LeastSince
+least_code = fin.code (coded_list coded_ℕ) coded_ℕ
+
+-- the least of a number known and one more
+abbrev pub lesser : Option ℕ → ℕ → ℕ
+lesser None since = since
+lesser (Some known) since = min since known
+
+abbrev pub with_since : LeastSince → List ℕ → ℕ → LeastSince
+with_since least file since = fin.insert least file (lesser (fin.get least file) since)
+
+abbrev pub noted_all : LeastSince → List HeldLock → LeastSince
+noted_all least held = fold (λ sofar lock. with_since sofar lock.file lock.since) least held
+
+abbrev pub least_since : List HeldLock → LeastSince
+least_since held = noted_all fin.empty held
+
+-- there is a number, and it is no later than that one
+abbrev pub is_since : Option ℕ → ℕ → Bool
+is_since None number = false
+is_since (Some since) number = nat_le since number
+
+-- the table, where there is one, is that of the locks
+abbrev pub IsTableOf : Option LeastSince → List HeldLock → Type 0
+IsTableOf None held = Unit {0}
+IsTableOf (Some table) held = table ≡ least_since held

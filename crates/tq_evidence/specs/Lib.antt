@@ -1,5 +1,2 @@
 pub mod Evidence
 pub mod Shareable
-pub mod Held
-pub mod InOrder
-pub mod Rules

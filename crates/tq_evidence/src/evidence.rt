@@ -6,7 +6,6 @@ ghost use Rattle.std.specs.Prelude.{◌≡◌, IfOk};
 ghost use Rattle.tq_evidence.specs.Evidence as spec;
 
 mod coverage;
-mod exclusive;
 mod held;
 mod listed;
 mod members;
@@ -16,8 +15,7 @@ mod writes;
 
 use crate::{Op, Rule, Vote};
 use coverage::are_covered;
-use exclusive::are_exclusive;
-use members::are_quorums;
+use members::{are_exclusive, are_quorums};
 use std::alloc::Global;
 use tq_shape::{Levels, Memory};
 use versions::have_versions;

@@ -1,6 +1,6 @@
 //! The evidence that a commit rests on: operations with their grants, and votes; and the rules that it has to keep.
 //!
-//! Definitions: `specs/Evidence`, `Rules`; `Held` and `InOrder` are the code's own words.
+//! Definitions: `specs/Evidence`; `Shareable` is the code's own word.
 #![tactic(auto)]
 
 mod evidence;

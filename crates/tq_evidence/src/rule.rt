@@ -1,7 +1,7 @@
 //! The rules of evidence, in the order in which they are tested.
 
 ghost use Rattle.std.specs.Prelude.{◌≡◌};
-ghost use Rattle.tq_evidence.specs.Rules as spec;
+ghost use Rattle.tq_evidence.specs.Evidence as spec;
 
 use tq_shape::ExactClone;
 

@@ -1,5 +1,2 @@
 pub mod LineLaws
-pub mod ReplayLaws
 pub mod ServeLaws
-pub mod BatchLaws
-pub mod HostLaws

@@ -1,18 +1,34 @@
--- What lines and what goes out do to what was served.
-use Rattle.std.proofs.Common.{◌≡◌, ◌<◌, ◌≤◌, ◌^◌, ℕ, ◌+◌, ◌-◌, length, List, [], ◌∷◌, ◌++◌, Option, take, drop, refl, sym, ap, subst, ◌∙◌, inl, inr, arith, append_assoc}
+-- Answers that are put. What lines and what goes out do to what was served.
+use Rattle.std.proofs.Common.{◌≡◌, ℕ, List, [], ◌++◌, sym, ◌∙◌, ◌<◌, ◌≤◌, ◌^◌, ◌+◌, ◌-◌, length, ◌∷◌, Option, take, drop, refl, ap, subst, inl, inr, arith, append_assoc}
 use Rattle.std.proofs.lemmas.List.{append-nil, length-append, take-append-drop, drop-take, drop-drop}
+use Rattle.tq_host.specs.Told.{bad, full, memory, bad_text, full_text, memory_text, Told, entered, Exchange, AreTold, IsTold, asked_text, logged_text, answered_text, standing_after, goes_on, log_line, answer_line, Batched, with_told, nothing_left, IsHalfOut}
 use Rattle.std.specs.Io.KnownBytes.{Appends, Keeps}
 use Rattle.tq_devices.proofs.Written.{Appends-none, Appends-then, Appends-kept}
-use Rattle.tq_shape.specs.declared.entry.Entry.{Entry}
-use Rattle.tq_part.specs.Agrees.{Standing}
-use Rattle.tq_host.specs.Lines.{HasNoFeed, IsLine}
-use Rattle.tq_host.specs.Told.{Told, entered, bad, full, memory, Exchange, AreTold, IsTold, asked_text, logged_text, answered_text, standing_after, goes_on, log_line, answer_line}
-use Rattle.tq_host.specs.Replay.{IsLogOf}
-use Rattle.tq_host.specs.Kept.{Batched, nothing_left, with_told, IsHalfOut}
-use Rattle.tq_json_write.proofs.Unbroken.{no-feed-append}
+use Rattle.tq_shape.specs.declared.part.Entry.{Entry}
+use Rattle.tq_shape.specs.Agrees.{Standing}
+use Rattle.tq_host.specs.Lines.{HasNoFeed, IsLine, IsLogOf}
+use Rattle.tq_board.proofs.ReadBack.{no-feed-append}
 use Rattle.tq_host.specs.Served.{Restarts, IsServing, IsAllServed, IsCutOff, IsLong}
 use Rattle.tq_host.specs.declared.fault.HostFault.{HostFault}
 use Rattle.tq_host.specs.declared.fault.HostFault.TheVariants.{Memory, Read, Write, TooLong, Log}
+
+abbrev with_answer : {S A R : Type 0} → Batched S A R → List ℕ → Batched S A R
+with_answer old text = record { standing = old.standing; entries = old.entries; answers = old.answers ++ text }
+
+no-entry : {S A R : Type 0} (old : Batched S A R) (text : List ℕ) → with_answer old text ≡ record { standing = old.standing; entries = old.entries ++ []; answers = old.answers ++ text }
+no-entry old text = λ i. record { standing = old.standing; entries = sym (append-nil old.entries) i; answers = old.answers ++ text }
+
+module _ {S A R : Type 0} (after : S → ℕ → A → S) (entry_line : A → R → List ℕ) (told_line : ℕ → R → List ℕ) (old new : Batched S A R) where
+  pub told-bad : new ≡ with_answer old bad_text → new ≡ with_told after entry_line told_line old bad
+  told-bad e = e ∙ no-entry old bad_text
+
+  pub told-full : new ≡ with_answer old full_text → new ≡ with_told after entry_line told_line old full
+  told-full e = e ∙ no-entry old full_text
+
+  pub told-memory : new ≡ with_answer old memory_text → new ≡ with_told after entry_line told_line old memory
+  told-memory e = e ∙ no-entry old memory_text
+
+-- ---- serve laws
 
 again : (P : Option (List ℕ) → Type 0) (now then : Option (List ℕ)) → then ≡ now → P now → P then
 again P now then same h = subst P (sym same) h

@@ -1,10 +1,9 @@
 -- What a host did that starts from the lines of a log.
 use Rattle.std.specs.Prelude.{◌≡◌, ◌⊎◌, ℕ, List, [], ◌∷◌, ◌++◌, Option, Result, Ok, Err, codes, decimal}
 use Rattle.std.specs.Io.KnownBytes.{Appends}
-use Rattle.tq_shape.specs.declared.entry.Entry.{Entry}
-use Rattle.tq_part.specs.Agrees.{Standing}
-use Rattle.tq_host.specs.Lines.{BeginsWith}
-use Rattle.tq_host.specs.Replay.{IsLogOf, IsReplayFault}
+use Rattle.tq_shape.specs.declared.part.Entry.{Entry}
+use Rattle.tq_shape.specs.Agrees.{Standing}
+use Rattle.tq_host.specs.Lines.{BeginsWith, IsLogOf, IsReplayFault}
 use Rattle.tq_host.specs.Served.{IsServed}
 use Rattle.tq_host.specs.declared.fault.HostFault.{HostFault}
 use Rattle.tq_host.specs.declared.fault.ReplayFault.{ReplayFault}

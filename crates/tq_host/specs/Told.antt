@@ -1,8 +1,11 @@
--- Lines that a host answered, and what each was told.
-use Rattle.std.specs.Prelude.{◌≡◌, ◌<◌, ◌≤◌, ⊤, ℕ, List, [], ◌∷◌, ◌++◌, Option, Some, None, length, codes}
-use Rattle.tq_shape.specs.declared.entry.Entry.{Entry}
-use Rattle.tq_part.specs.Agrees.{Standing, next_number, state_after_entry}
+-- Lines that a host answered, and what each was told. A part with the text that did not go out yet, and what happens
+-- where it goes out.
+use Rattle.std.specs.Prelude.{◌≡◌, ◌<◌, ◌≤◌, ⊤, ℕ, List, [], ◌∷◌, ◌++◌, Option, Some, None, length, codes, ◌⊎◌}
+use Rattle.tq_shape.specs.declared.part.Entry.{Entry}
+use Rattle.tq_shape.specs.Agrees.{Standing, next_number, state_after_entry}
 use Rattle.tq_host.specs.Lines.{IsLine}
+use Rattle.std.specs.Io.KnownBytes.{Appends}
+use Rattle.tq_devices.specs.Devices.{AppendsFront}
 
 -- an entry was made, or none: the line is no ask, the journal is full, or memory was refused
 pub data Told (A R : Type 0) : Type 0 where
@@ -89,3 +92,43 @@ module _ {S A R : Type 0} (reply : S → ℕ → A → R) (after : S → ℕ →
   abbrev pub AreTold : Standing S A R → List (Exchange A R) → Type 0
   AreTold start [] = ⊤
   AreTold start (x ∷ earlier) = AreTold start earlier × IsLine x.line × IsTold (standing_after after start earlier) x.line x.told
+
+-- ---- kept
+
+-- a part, the entries that the log does not have yet, and the answers that are not written yet
+pub record Batched (S A R : Type 0) : Type 0 where
+  pub standing : Standing S A R
+  pub entries : List ℕ
+  pub answers : List ℕ
+
+-- one that answered all
+abbrev pub nothing_left : {S A R : Type 0} → Standing S A R → Batched S A R
+nothing_left standing = record { standing = standing; entries = []; answers = [] }
+
+module _ {S A R : Type 0} (after : S → ℕ → A → S) (entry_line : A → R → List ℕ) (told_line : ℕ → R → List ℕ) where
+  -- the same behind an answer
+  abbrev pub with_told : Batched S A R → Told A R → Batched S A R
+  with_told old told = record {
+    standing = goes_on after old.standing told;
+    entries = old.entries ++ log_line entry_line told;
+    answers = old.answers ++ answer_line after told_line old.standing told;
+  }
+
+-- the log keeps a front of the entries, and no more is synced; or it has all and they are synced, and a front of the answers
+-- is written
+abbrev pub IsHalfOut : List ℕ → List ℕ → Option (List ℕ) → Option (List ℕ) → Option (List ℕ) → Option (List ℕ) → Option (List ℕ) → Option (List ℕ) → Type 0
+IsHalfOut entries answers kept kept_now synced synced_now taken taken_now =
+    ((count : ℕ) × AppendsFront kept kept_now entries count × (synced_now ≡ synced) × (taken_now ≡ taken))
+    ⊎ (Appends kept kept_now entries × (synced_now ≡ kept_now) × ((count : ℕ) × AppendsFront taken taken_now answers count))
+
+-- a log in memory: what it keeps and what is synced, its calls so far, and the call that fails
+pub record KnownLog : Type 0 where
+  pub kept : List ℕ
+  pub synced : List ℕ
+  pub calls : ℕ
+  pub fails_at : Option ℕ
+  pub failed : ℕ
+
+-- one that keeps nothing yet
+abbrev pub new_log : Option ℕ → KnownLog
+new_log fails_at = record { kept = []; synced = []; calls = 0; fails_at = fails_at; failed = 0 }

@@ -4,8 +4,7 @@ use crate::wire::Wire;
 use std::alloc::Global;
 use std::marker::Model;
 use tq_json::Scratch;
-use tq_part::Journaled;
-use tq_shape::Memory;
+use tq_shape::{Journaled, Memory};
 
 /// What is answered of a line that is no ask of the part.
 const BAD: &str = "{\"bad\":\"ask\"}\n";
@@ -27,7 +26,7 @@ pub(crate) struct Batch<P: Wire> {
 
 impl<P: Wire> Model for Batch<P> {
     ghost use Rattle.std.specs.Prelude.{◌≡◌};
-    ghost use Rattle.tq_host.specs.Kept.{Batched};
+    ghost use Rattle.tq_host.specs.Told.{Batched};
 
     ghost Value = { Batched P P.Ask P.Reply };
 
@@ -40,10 +39,9 @@ impl<P: Wire> Model for Batch<P> {
 
 impl<P: Wire> Batch<P> {
     ghost use Rattle.std.specs.Prelude.{◌≡◌, ◌^◌, ◌≤◌, ◌<◌, ◌++◌, [], ℕ, List, Some, length, take, OnOk, OnErr};
-    ghost use Rattle.tq_shape.specs.declared.entry.Entry.{Entry};
-    ghost use Rattle.tq_host.specs.Told.{Told, IsTold, IsEntered};
+    ghost use Rattle.tq_shape.specs.declared.part.Entry.{Entry};
+    ghost use Rattle.tq_host.specs.Told.{Told, IsTold, IsEntered, with_told, nothing_left};
     ghost use Rattle.tq_host.specs.Told as told;
-    ghost use Rattle.tq_host.specs.Kept.{with_told, nothing_left};
 
     /// A part that answered all.
     pub(crate) fn new(alloc: Global, part: Journaled<P>) -> Batch<P>

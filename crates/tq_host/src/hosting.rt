@@ -3,7 +3,7 @@
 ghost use Rattle.std.specs.Prelude.{◌≡◌, ◌-◌, ◌^◌, ◌<◌, ◌++◌, ◌∷◌, [], ℕ, List, OnOk, OnErr};
 ghost use Rattle.std.specs.Fmt.{decimal};
 ghost use Rattle.std.specs.Io.KnownBytes.{Appends};
-ghost use Rattle.tq_part.specs.Agrees.{standing_part};
+ghost use Rattle.tq_shape.specs.Agrees.{standing_part};
 ghost use Rattle.tq_host.specs.Hosted.{IsHosted, IsFaultTold, IsFront};
 ghost use Rattle.tq_host.specs.Served.{IsHostCount};
 
@@ -14,8 +14,7 @@ use crate::serving::serve;
 use crate::wire::Wire;
 use std::alloc::Global;
 use tq_devices::{Sink, Source, write_out};
-use tq_digits::push_number;
-use tq_shape::Memory;
+use tq_shape::{Memory, push_number};
 
 /// The part that the lines of a log lead to answers the lines of the source, with status 0 at its end. Where they lead to none,
 /// a line tells why, `wrong entry N` with status 3 or `unreadable entry N` with status 4, and no ask is read.

@@ -1,7 +1,7 @@
 //! A part on a machine of its own: one server, desk or view behind lines of bytes, with a durable log.
 //!
-//! Definitions: `specs/Lines`, `Replay` a part after the lines of a log, `Told` what lines are told, `Kept`, `Served` what a host
-//! did up to its end, `Hosted` from its start.
+//! Definitions: `specs/Lines` a part after the lines of a log, `Told` what lines are told, `Served` what a host did up to its
+//! end, `Hosted` from its start.
 #![tactic(auto)]
 
 mod batch;

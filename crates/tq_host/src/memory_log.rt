@@ -17,7 +17,7 @@ pub struct MemoryLog {
 
 impl Model for MemoryLog {
     ghost use Rattle.std.specs.Prelude.{◌≤◌, take, length};
-    ghost use Rattle.tq_host.specs.Kept.{KnownLog};
+    ghost use Rattle.tq_host.specs.Told.{KnownLog};
 
     ghost Value = { KnownLog };
 
@@ -34,7 +34,7 @@ impl Model for MemoryLog {
 
 impl MemoryLog {
     ghost use Rattle.std.specs.Prelude.{◌≡◌};
-    ghost use Rattle.tq_host.specs.Kept.{new_log};
+    ghost use Rattle.tq_host.specs.Told.{new_log};
 
     /// An empty log. The call that `fails_at` counts, the first being 0, fails.
     pub fn new(alloc: Global, fails_at: Option<u64>) -> MemoryLog

@@ -1,26 +1,26 @@
 //! Servers, the desk and the view as parts that answer lines, in the form of journal files.
 
 ghost use Rattle.tq_json.specs.declared.format.Format.TheVariants.{Two};
-ghost use Rattle.tq_json_read.specs.Alone.{IsAlone};
-ghost use Rattle.tq_json_read.specs.Entries as entries;
-ghost use Rattle.tq_json_read.proofs.Once.{alone-once};
-ghost use Rattle.tq_json_write.specs.Lines.{entry_line, answer_line};
+ghost use Rattle.tq_json_read.specs.Frame.{IsAlone};
+ghost use Rattle.tq_json_read.specs.Frame as entries;
+ghost use Rattle.tq_json_read.proofs.Places.{alone-once};
+ghost use Rattle.tq_board.specs.Lines.{entry_line, answer_line};
 
 use crate::wire::Wire;
 use std::alloc::Global;
 use tq_asks::{NodeAsk, NodeReply};
+use tq_board::{answer_to_json, entry_to_json};
 use tq_desk::{Desk, DeskAsk, DeskReply};
-use tq_equality::Same;
 use tq_json::Scratch;
 use tq_json_read::value_from_json;
-use tq_json_write::{answer_to_json, entry_to_json};
 use tq_live::{View, ViewAsk, ViewReply};
 use tq_node::Node;
 use tq_shape::{Entry, Levels, Memory};
+use tq_tables::Same;
 
 impl Wire for Node {
-    ghost use Rattle.tq_json_read.specs.NodeAsks.{node_ask};
-    ghost use Rattle.tq_json_write.specs.Nodes.{node_ask_value, node_reply_value};
+    ghost use Rattle.tq_json_read.specs.Nodes.{node_ask};
+    ghost use Rattle.tq_board.specs.Nodes.{node_ask_value, node_reply_value};
 
     ghost reads_ask = { IsAlone (node_ask Two) };
 
@@ -70,7 +70,7 @@ impl Wire for Node {
 
 impl Wire for Desk {
     ghost use Rattle.tq_json_read.specs.Desks.{desk_ask};
-    ghost use Rattle.tq_json_write.specs.Desks.{desk_ask_value, desk_reply_value};
+    ghost use Rattle.tq_board.specs.Form.{desk_ask_value, desk_reply_value};
 
     ghost reads_ask = { IsAlone (desk_ask Two) };
 
@@ -120,7 +120,7 @@ impl Wire for Desk {
 
 impl Wire for View {
     ghost use Rattle.tq_json_read.specs.Views.{view_ask};
-    ghost use Rattle.tq_json_write.specs.Views.{view_ask_value, view_reply_value};
+    ghost use Rattle.tq_board.specs.Views.{view_ask_value, view_reply_value};
 
     ghost reads_ask = { IsAlone (view_ask Two) };
 

@@ -1,17 +1,15 @@
 //! The part after the lines of a log.
 
 ghost use Rattle.std.specs.Prelude.{◌≡◌, ◌++◌, ◌<◌, ◌≤◌, [], ℕ, List, IfOk, IfErr, OnErr, OnOk, length};
-ghost use Rattle.tq_part.specs.Agrees.{Standing, standing_part};
-ghost use Rattle.tq_host.specs.Lines.{BeginsWith, EndsWhole, IsLine, HasNoFeed};
-ghost use Rattle.tq_host.specs.Replay.{Enters, IsLogOf, IsReplayFault, IsLineFault};
+ghost use Rattle.tq_shape.specs.Agrees.{Standing, standing_part};
+ghost use Rattle.tq_host.specs.Lines.{BeginsWith, EndsWhole, IsLine, HasNoFeed, Enters, IsLogOf, IsReplayFault, IsLineFault};
 
 use crate::fault::ReplayFault;
 use crate::wire::Wire;
 use memchr::{memchr, memrchr};
 use std::alloc::Global;
 use tq_json::Scratch;
-use tq_part::Journaled;
-use tq_shape::Entry;
+use tq_shape::{Entry, Journaled};
 
 /// The whole lines that the bytes begin with: all but a last one that no line feed ends.
 pub fn whole_lines(bytes: &[u8]) -> &[u8]

@@ -3,8 +3,7 @@
 ghost use Rattle.std.specs.Prelude.{◌≡◌, ◌≢◌, ◌+◌, ◌-◌, ◌^◌, ◌<◌, ◌≤◌, ◌++◌, [], ℕ, List, IfErr, IfOk, IsTrue, OnOk, OnErr, length};
 ghost use Rattle.std.specs.Io.KnownBytes.{Appends};
 ghost use Rattle.tq_devices.specs.Devices.{AppendsFront};
-ghost use Rattle.tq_host.specs.Told.{Told, IsTold};
-ghost use Rattle.tq_host.specs.Kept.{with_told, nothing_left, IsHalfOut};
+ghost use Rattle.tq_host.specs.Told.{Told, IsTold, with_told, nothing_left, IsHalfOut};
 ghost use Rattle.tq_host.specs.Served.{IsHostCount, IsServed};
 
 use crate::batch::Batch;
@@ -15,8 +14,7 @@ use memchr::memchr;
 use std::alloc::Global;
 use tq_devices::{Sink, Source, write_out};
 use tq_json::Scratch;
-use tq_part::Journaled;
-use tq_shape::Memory;
+use tq_shape::{Journaled, Memory};
 
 /// How many bytes are read at a time.
 const PIECE: usize = 65_536;

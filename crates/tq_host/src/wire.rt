@@ -2,14 +2,13 @@
 
 use std::alloc::Global;
 use tq_json::Scratch;
-use tq_part::Answers;
-use tq_shape::{Entry, Memory};
+use tq_shape::{Answers, Entry, Memory};
 
 /// A part whose asks, entries and replies are read and written as lines.
 pub trait Wire: Answers {
     ghost use Rattle.std.specs.Prelude.{◌≡◌, ◌↔◌, ℕ, List, Option, Some, IfOk, IsTrue};
     ghost use Rattle.std.specs.String.{string_bytes};
-    ghost use Rattle.tq_shape.specs.declared.entry.Entry.{Entry};
+    ghost use Rattle.tq_shape.specs.declared.part.Entry.{Entry};
     ghost use Rattle.tq_shape.specs.Journal.{entry};
     ghost use Rattle.tq_host.specs.Lines.{IsLine};
 

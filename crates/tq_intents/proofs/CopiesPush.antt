@@ -1,19 +1,67 @@
--- The copies that a list of records stands for, after more records.
-use Rattle.std.proofs.Common.{◌+◌, take, length, get_or, ◌≡◌, ℕ, Bool, true, false, cond, ◌&&◌, ◌<◌, ◌≤◌, List, [], ◌∷◌, ◌++◌, map, filter, Option, Some, None, refl, ap, sym, ◌∙◌, append_assoc, arith, nat_lt, nat_le}
-use Rattle.std.proofs.lemmas.Bool.Decides.{nat_tests}
+-- A copy that is written adds and ends no vote. The copies that a list of records stands for, after more records. The
+-- copies that a list keeps, each as the first of the file's records with the greatest version.
+use Rattle.std.proofs.Common.{◌≡◌, ℕ, Bool, false, cond, ◌||◌, List, [], ◌∷◌, ◌++◌, map, Option, Some, None, refl, ap, sym, subst, ◌∙◌, append_assoc, ◌+◌, take, length, get_or, true, ◌&&◌, ◌<◌, ◌≤◌, filter, arith, nat_lt, nat_le, ◌==◌, max}
 use Rattle.std.proofs.lemmas.List.{append-nil, take_more}
-use Rattle.std.specs.Cmp.Lexicographic.{nat_list_cmp_total}
 use Rattle.std.specs.FinMap as fin
-use Rattle.std.specs.FinMap.{nat_cmp-IsAntisymmetric, slice_cmp-IsAntisymmetric, same_map}
-use Rattle.std.specs.Ordering.{eq_by_cmp}
-use Rattle.tq_store.specs.declared.copies.FileCopy.{FileCopy}
+use Rattle.std.specs.List.{list_any, filter_map, cons_option, AllByRecursion, find}
+use Rattle.std.specs.Ordering.{nat_cmp, eq_by_cmp}
 use Rattle.tq_store.specs.declared.write.Write.{Write}
-use Rattle.tq_store.specs.Copies.{Files, OnlyRises, name_cmp, copy_at, copy_of, copy_in, copies_after_install, installed_all, is_newer}
-use Rattle.tq_store.proofs.Installed.{arrives, at_name, get-installed, put_where, rises-installed, rises_then}
-use Rattle.tq_intents.specs.Kept.{kept_copies, with_copy, with_record, vote_records}
-use Rattle.tq_intents.specs.declared.record.KeptLock.{KeptLock}
+use Rattle.tq_intents.specs.Kept.{IsIndex, ends_vote, write_of, lock_of, opened_vote, open_votes, kept_votes, kept_copies, with_copy, with_record, vote_records, KeepsNewest, copy_to, greatest_version, newest}
+use Rattle.tq_intents.specs.declared.record.OpenVote.{OpenVote}
 use Rattle.tq_intents.specs.declared.record.Record.{Record}
 use Rattle.tq_intents.specs.declared.record.Record.TheVariants.{Copy, Intent, Keep, Prepared, Gone}
+use Rattle.std.proofs.lemmas.Bool.Decides.{nat_tests}
+use Rattle.std.specs.Cmp.Lexicographic.{nat_list_cmp_total, pointwise, texts_ties}
+use Rattle.std.specs.FinMap.{nat_cmp-IsAntisymmetric, slice_cmp-IsAntisymmetric, same_map}
+use Rattle.tq_store.specs.declared.copies.FileCopy.{FileCopy}
+use Rattle.tq_store.specs.Copies.{Files, OnlyRises, name_cmp, copy_at, copy_of, copy_in, copies_after_install, installed_all, is_newer}
+use Rattle.tq_store.proofs.Installed.{arrives, at_name, get-installed, put_where, rises-installed, rises_then}
+use Rattle.tq_intents.specs.declared.record.KeptLock.{KeptLock}
+use Rattle.std.specs.Option.{option_map}
+
+pub push_none : {X Y : Type 0} (f : X → Option Y) (xs : List X) (x : X) → f x ≡ None → filter_map f (xs ++ x ∷ []) ≡ filter_map f xs
+push_none f [] x e = ap (λ o. cons_option o []) e
+push_none f (y ∷ ys) x e = ap (cons_option (f y)) (push_none f ys x e)
+
+push_false : {X : Type 0} (p : X → Bool) (xs : List X) (x : X) → p x ≡ false → list_any p (xs ++ x ∷ []) ≡ list_any p xs
+push_false p [] x e = ap (λ b. b || false) e
+push_false p (y ∷ ys) x e = ap (λ b. p y || b) (push_false p ys x e)
+
+same_opened : (list : List Record) (write : Write) (r : Record) → opened_vote (list ++ Copy write ∷ []) r ≡ opened_vote list r
+same_opened list write (Copy other) = refl
+same_opened list write (Intent t n other) = refl
+same_opened list write (Keep t n lock) = refl
+same_opened list write (Gone t n) = refl
+same_opened list write (Prepared t n) = λ i.
+    cond (push_false (ends_vote t n) list (Copy write) refl i) None
+    (Some (t, record { number = n; writes = push_none (write_of t n) list (Copy write) refl i; locks = push_none (lock_of t n) list (Copy write) refl i }))
+
+pub open_votes-push_copy : (list : List Record) (write : Write) → open_votes (list ++ Copy write ∷ []) ≡ open_votes list
+open_votes-push_copy list write =
+    ap (λ (f : Record → Option (ℕ × OpenVote)). filter_map f (list ++ Copy write ∷ [])) (λ i r. same_opened list write r i)
+    ∙ push_none (opened_vote list) list (Copy write) refl
+
+pub kept_votes-push_copy : (list : List Record) (write : Write) → kept_votes (list ++ Copy write ∷ []) ≡ kept_votes list
+kept_votes-push_copy list write = ap (λ es. fin.from_entries {R = nat_cmp} es) (open_votes-push_copy list write)
+
+-- each entry is the one of its key
+abbrev pub AreOneEach : List (ℕ × OpenVote) → Type 0
+AreOneEach es = AllByRecursion (λ e. fin.get (fin.from_entries {R = nat_cmp} es) e.0 ≡ Some e.1) es
+
+pub IsIndex-push_copy : (old new : List Record) (entries : List (ℕ × OpenVote)) (write : Write) → new ≡ old ++ Copy write ∷ [] → IsIndex old entries → IsIndex new entries
+IsIndex-push_copy old new entries write e h =
+    record { one_each = subst AreOneEach (sym (ap open_votes e ∙ open_votes-push_copy old write)) h.one_each; each = λ txn. h.each txn ∙ ap (λ (m : fin.FinMap nat_cmp OpenVote). fin.get m txn) (sym (ap kept_votes e ∙ kept_votes-push_copy old write)) }
+
+-- ---- more than one copy
+
+pub open_votes-push_copies : (writes : List Write) (list : List Record) → open_votes (list ++ map Copy writes) ≡ open_votes list
+open_votes-push_copies [] list = ap open_votes (append-nil list)
+open_votes-push_copies (write ∷ writes) list =
+    ap open_votes (sym (append_assoc list (Copy write ∷ []) (map Copy writes)))
+    ∙ open_votes-push_copies writes (list ++ Copy write ∷ [])
+    ∙ open_votes-push_copy list write
+
+-- ---- copies push
 
 -- what it has with an earlier record in front
 abbrev pub fronted : FileCopy → Option FileCopy → Option FileCopy
@@ -119,3 +167,62 @@ newer_from start now (write ∷ rest) r =
 
 pub installed_all-newer : (files : Files) (writes : List Write) → installed_all files (filter (is_newer files) writes) ≡ installed_all files writes
 installed_all-newer files writes = newer_from files files writes (λ q. omega arith)
+
+-- ---- newest copies
+
+greater : (v g : ℕ) → (nat_lt 0 v && nat_le g v) ≡ true → max v g ≡ v
+greater v g h = grind (arith, nat_tests, h)
+
+greater_test : (v g : ℕ) → (nat_lt 0 v && nat_le g v) ≡ true → (nat_lt 0 v && v == v) ≡ true
+greater_test v g h = grind (arith, nat_tests, h)
+
+lesser : (v g : ℕ) → (nat_lt 0 v && nat_le g v) ≡ false → max v g ≡ g
+lesser v g h = grind (arith, nat_tests, h)
+
+lesser_test : (v g : ℕ) → (nat_lt 0 v && nat_le g v) ≡ false → (nat_lt 0 v && v == g) ≡ false
+lesser_test v g h = grind (arith, nat_tests, h)
+
+-- the file's copy is that of the newest of the writes
+pub record IsNewest (had : Option FileCopy) (writes : List Write) : Type 0 where
+  pub copy : had ≡ option_map copy_in (newest writes)
+  pub version : (copy_at had).version ≡ greatest_version writes
+
+abbrev newest_at : ℕ → List Write → Option Write
+newest_at most writes = find (λ write. nat_lt 0 write.version && write.version == most) writes
+
+one_more : (had : Option FileCopy) (write : Write) (writes : List Write) (b : Bool) → (nat_lt 0 write.version && nat_le (greatest_version writes) write.version) ≡ b → IsNewest had writes → IsNewest (cond b (Some (copy_in write)) had) (write ∷ writes)
+one_more had write writes true t h = record {
+  copy = sym (ap (option_map copy_in)
+      (ap (λ most. newest_at most (write ∷ writes)) (greater write.version (greatest_version writes) t)
+      ∙ ap (λ (b : Bool). cond b (Some write) (newest_at write.version writes)) (greater_test write.version (greatest_version writes) t)));
+  version = sym (greater write.version (greatest_version writes) t);
+}
+one_more had write writes false t h = record {
+  copy = h.copy ∙ sym (ap (option_map copy_in)
+      (ap (λ most. newest_at most (write ∷ writes)) (lesser write.version (greatest_version writes) t)
+      ∙ ap (λ (b : Bool). cond b (Some write) (newest_at (greatest_version writes) writes)) (lesser_test write.version (greatest_version writes) t)));
+  version = h.version ∙ sym (lesser write.version (greatest_version writes) t);
+}
+
+-- a record in front, of the file or of another
+fronted_newest : (write : Write) (had : Option FileCopy) (writes : List Write) (b : Bool) → IsNewest had writes → IsNewest (cond b (fronted (copy_in write) had) had) (cons_option (cond b (Some write) None) writes)
+fronted_newest write had writes false h = h
+fronted_newest write had writes true h =
+    subst (λ (n : ℕ). IsNewest (cond (nat_lt 0 write.version && nat_le n write.version) (Some (copy_in write)) had) (write ∷ writes)) (sym h.version)
+    (one_more had write writes (nat_lt 0 write.version && nat_le (greatest_version writes) write.version) refl h)
+
+IsNewest-get : (list : List Record) (file : List ℕ) → IsNewest (fin.get (kept_copies list) file) (filter_map (copy_to file) list)
+IsNewest-get [] file = record { copy = fin.get-empty name_cmp file; version = ap (λ had. (copy_at had).version) (fin.get-empty name_cmp file) }
+IsNewest-get (Copy write ∷ later) file =
+    let had = fin.get (kept_copies later) file in
+    let writes = filter_map (copy_to file) later in
+    subst (λ (o : Option FileCopy). IsNewest o (filter_map (copy_to file) (Copy write ∷ later)))
+    (sym (get-with_copy write (kept_copies later) file ∙ ap (λ b. cond b (fronted (copy_in write) had) had) (sym (texts_ties file write.file))))
+    (fronted_newest write had writes (pointwise (◌==◌) file write.file) (IsNewest-get later file))
+IsNewest-get (Intent t n write ∷ later) file = IsNewest-get later file
+IsNewest-get (Keep t n lock ∷ later) file = IsNewest-get later file
+IsNewest-get (Prepared t n ∷ later) file = IsNewest-get later file
+IsNewest-get (Gone t n ∷ later) file = IsNewest-get later file
+
+pub KeepsNewest-all : (list : List Record) → KeepsNewest list
+KeepsNewest-all list file = ap copy_at (IsNewest-get list file).copy

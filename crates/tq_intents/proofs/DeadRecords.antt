@@ -1,16 +1,57 @@
--- Intents and locks of a number that no vote has, behind a list of stable records: they stand for nothing.
+-- A number above all in a list of records. Intents and locks of a number that no vote has, behind a list of stable
+-- records: they stand for nothing. What a loop over the records gathers, from record to record.
+use Rattle.std.proofs.Common.{◌<◌, ◌≤◌, ◌+◌, ℕ, List, [], ◌∷◌, ◌++◌, map, arith, ◌≡◌, Bool, true, false, cond, Option, Some, None, refl, sym, ap, subst, ◌∙◌, inl, inr, length, get_or, take, drop}
+use Rattle.tq_store.specs.declared.write.Write.{Write}
+use Rattle.tq_intents.specs.Kept.{IsAbove, IsBelow, vote_records, Votes, IsUnfinished, is_dead, AreDead, ends_vote, write_of, lock_of, vote_of, opened_vote, open_votes, kept_votes, kept_copies, IsIndex}
+use Rattle.tq_intents.specs.declared.record.KeptLock.{KeptLock}
+use Rattle.tq_intents.specs.declared.record.Record.{Record}
+use Rattle.tq_intents.specs.declared.record.Record.TheVariants.{Copy, Intent, Keep, Prepared, Gone}
 use Rattle.std.specs.Prelude.{◌==◌, ◌&&◌, ◌||◌}
-use Rattle.std.proofs.Common.{◌≡◌, ℕ, ◌+◌, ◌<◌, Bool, true, false, cond, List, [], ◌∷◌, ◌++◌, Option, Some, None, refl, sym, ap, subst, ◌∙◌, inl, inr, arith}
 use Rattle.std.proofs.lemmas.Bool.{cond-false, false≢true, and_right, eqb-true, ne_eqb}
 use Rattle.std.specs.FinMap as fin
 use Rattle.std.specs.List.{list_any, filter_map, cons_option}
 use Rattle.tq_shape.specs.Journal.{Has}
-use Rattle.tq_intents.specs.Kept.{Votes, IsAbove, IsUnfinished, is_dead, AreDead, ends_vote, write_of, lock_of, vote_of, opened_vote, open_votes, kept_votes, kept_copies}
 use Rattle.tq_intents.specs.declared.record.OpenVote.{OpenVote}
-use Rattle.tq_intents.specs.declared.record.Record.{Record}
-use Rattle.tq_intents.specs.declared.record.Record.TheVariants.{Copy, Intent, Keep, Prepared, Gone}
-use Rattle.tq_intents.specs.Index.{IsIndex}
-use Rattle.tq_intents.proofs.CopyPush.{AreOneEach}
+use Rattle.tq_intents.proofs.CopiesPush.{AreOneEach}
+use Prim.Native.Nat.{suc}
+use Rattle.std.proofs.lemmas.List.{take_more, append-nil}
+use Rattle.std.proofs.lemmas.List.Elements.{filter_map-append}
+use Rattle.std.proofs.Math.Seq.{drop-cons}
+use Rattle.std.specs.BTreeMap.{is_at}
+use Rattle.std.specs.FinMap.{find}
+use Rattle.std.specs.Map.{lookup}
+use Rattle.std.specs.Ordering.{nat_cmp}
+use Rattle.tq_intents.proofs.Votes.{swap_test}
+
+pub above_append : (n : ℕ) (xs ys : List Record) → IsAbove n xs → IsAbove n ys → IsAbove n (xs ++ ys)
+above_append n [] ys h k = k
+above_append n (x ∷ xs) ys h k = (h.0, above_append n xs ys h.1 k)
+
+below_greater : (m n : ℕ) (r : Record) → m ≤ n → IsBelow m r → IsBelow n r
+below_greater m n (Copy write) e h = tt
+below_greater m n (Intent t k write) e h = omega (arith, e, h)
+below_greater m n (Keep t k lock) e h = omega (arith, e, h)
+below_greater m n (Prepared t k) e h = omega (arith, e, h)
+below_greater m n (Gone t k) e h = omega (arith, e, h)
+
+pub above_greater : (m n : ℕ) (list : List Record) → m ≤ n → IsAbove m list → IsAbove n list
+above_greater m n [] e h = tt
+above_greater m n (r ∷ rest) e h = (below_greater m n r e h.0, above_greater m n rest e h.1)
+
+above_map : {X : Type 0} (n : ℕ) (f : X → Record) (xs : List X) → ((x : X) → IsBelow n (f x)) → IsAbove n (map f xs)
+above_map n f [] h = tt
+above_map n f (x ∷ xs) h = (h x, above_map n f xs h)
+
+pub above_copies : (n : ℕ) (writes : List Write) → IsAbove n (map Copy writes)
+above_copies n writes = above_map n Copy writes (λ write. tt)
+
+pub above_vote : (t n : ℕ) (writes : List Write) (locks : List KeptLock) → IsAbove (n + 1) (vote_records t n writes locks)
+above_vote t n writes locks =
+    let less : n < n + 1 = omega arith in
+    above_append (n + 1) (map (Intent t n) writes) (map (Keep t n) locks ++ Prepared t n ∷ []) (above_map (n + 1) (Intent t n) writes (λ x. less))
+    (above_append (n + 1) (map (Keep t n) locks) (Prepared t n ∷ []) (above_map (n + 1) (Keep t n) locks (λ x. less)) (less, tt))
+
+-- ---- dead records
 
 -- records that a list of options passes over
 none-behind : {X Y : Type 0} (h : X → Option Y) (xs ys : List X) → ((y : X) → Has ys y → h y ≡ None) → filter_map h (xs ++ ys) ≡ filter_map h xs
@@ -106,3 +147,40 @@ IsIndex-dead old new dead entries unfinished e h =
       one_each = subst AreOneEach (sym (ap open_votes e ∙ open_votes-dead unfinished.number old dead unfinished.dead unfinished.newest)) h.one_each;
       each = λ txn. h.each txn ∙ ap (λ (m : Votes). fin.get m txn) (sym (ap kept_votes e ∙ kept_votes-dead old dead unfinished.number unfinished.newest unfinished.dead));
     }
+
+-- ---- gathered
+
+module _ {X Y : Type 0} (f : X → Option Y) (xs : List X) (i : ℕ) (x : X) where
+  gathered_more : i < length xs → get_or xs i x ≡ x → filter_map f (take (i + 1) xs) ≡ filter_map f (take i xs) ++ cons_option (f x) []
+  gathered_more h e = ap (filter_map f) (take_more xs i x h ∙ ap (λ y. take i xs ++ y ∷ []) e) ∙ filter_map-append f (take i xs) (x ∷ [])
+
+  pub gathered_none : i < length xs → x ≡ get_or xs i x → None ≡ f x → filter_map f (take i xs) ≡ filter_map f (take (i + 1) xs)
+  gathered_none h e n = sym (gathered_more h (sym e) ∙ ap (λ o. filter_map f (take i xs) ++ cons_option o []) (sym n) ∙ append-nil (filter_map f (take i xs)))
+
+  pub gathered_some : i < length xs → x ≡ get_or xs i x → (y : Y) → Some y ≡ f x → filter_map f (take i xs) ++ y ∷ [] ≡ filter_map f (take (i + 1) xs)
+  gathered_some h e y s = sym (gathered_more h (sym e) ∙ ap (λ o. filter_map f (take i xs) ++ cons_option o []) (sym s))
+
+-- the vote that a record opens
+pub opened_ended : (list : List Record) (r : Record) (t n : ℕ) → r ≡ Prepared t n → list_any (ends_vote t n) list ≡ true → None ≡ opened_vote list r
+opened_ended list r t n e h = sym (ap (opened_vote list) e ∙ ap (λ b. cond {A = Option (ℕ × OpenVote)} b None (Some (t, vote_of list t n))) h)
+
+pub opened_open : (list : List Record) (r : Record) (t n : ℕ) (writes : List Write) (locks : List KeptLock) → r ≡ Prepared t n → list_any (ends_vote t n) list ≡ false → writes ≡ filter_map (write_of t n) list → locks ≡ filter_map (lock_of t n) list → Some (t, record { number = n; writes = writes; locks = locks }) ≡ opened_vote list r
+opened_open list r t n writes locks e h f g =
+    (λ i. Some (t, record { number = n; writes = f i; locks = g i }))
+    ∙ sym (ap (opened_vote list) e ∙ ap (λ b. cond {A = Option (ℕ × OpenVote)} b None (Some (t, vote_of list t n))) h)
+
+next : (k : ℕ) → suc k ≡ k + 1
+next k = omega arith
+
+-- the index, from the last record backwards
+module _ (list : List Record) (k : ℕ) (r : Record) where
+  one_more : k < length list → r ≡ get_or list k r → filter_map (opened_vote list) (drop k list) ≡ cons_option (opened_vote list r) (filter_map (opened_vote list) (drop (k + 1) list))
+  one_more h e = ap (filter_map (opened_vote list)) (drop-cons list k r h ∙ ap (λ m. get_or list k r ∷ drop m list) (next k) ∙ ap (λ y. y ∷ drop (k + 1) list) (sym e))
+
+  pub index_some : (entries after : List (ℕ × OpenVote)) (t : ℕ) (v : OpenVote) → k < length list → r ≡ get_or list k r → Some (t, v) ≡ opened_vote list r
+      → ((q : ℕ) → lookup (is_at (nat_cmp q)) after ≡ cond (is_at (nat_cmp t) q) (Some v) (lookup (is_at (nat_cmp q)) entries))
+      → ((q : ℕ) → lookup (is_at (nat_cmp q)) entries ≡ find nat_cmp q (filter_map (opened_vote list) (drop (k + 1) list)))
+      → (q : ℕ) → lookup (is_at (nat_cmp q)) after ≡ find nat_cmp q (filter_map (opened_vote list) (drop k list))
+  index_some entries after t v h e s updates before q =
+      updates q ∙ (λ i. cond (swap_test t q i) (Some v) (before q i))
+      ∙ ap (find nat_cmp q) (sym (one_more h e ∙ ap (λ o. cons_option o (filter_map (opened_vote list) (drop (k + 1) list))) (sym s)))

@@ -1,5 +1,9 @@
--- The locks that a list of records keeps, at a file and a transaction.
-use Rattle.std.proofs.Common.{◌≡◌, ◌==◌, ℕ, Bool, true, false, cond, ◌&&◌, List, [], ◌∷◌, ◌++◌, map, Option, Some, None, refl, ap, sym, ◌∙◌}
+-- Lists that others share: what stands at a place, and what is put behind the others. The locks that a list of records
+-- keeps, at a file and a transaction.
+use Rattle.std.proofs.Common.{◌≡◌, ◌<◌, ℕ, List, [], ◌∷◌, ◌++◌, zero, suc, length, length-append, get_or, refl, sym, ap, subst, ◌∙◌, arith, ◌==◌, Bool, true, false, cond, ◌&&◌, map, Option, Some, None}
+use Rattle.tq_asks.specs.declared.ask.HeldLock.{HeldLock}
+use Rattle.tq_intents.specs.declared.record.KeptLock.{KeptLock}
+use Rattle.tq_intents.specs.Sharing.{lock_of_vote, kept_each, lock_at}
 use Rattle.std.specs.Cmp.{nat_cmp_total, unsigned_tied}
 use Rattle.std.specs.Cmp.Lexicographic.{pointwise, texts_ties}
 use Rattle.std.specs.FinMap as fin
@@ -8,16 +12,44 @@ use Rattle.std.specs.Option.{option_and_then, option_map}
 use Rattle.std.specs.Ordering.{nat_cmp, is_eq, eq_by_cmp, ordering_then}
 use Rattle.std.specs.declared.cmp.Ordering.{Ordering}
 use Rattle.std.specs.declared.cmp.Ordering.TheVariants.{Less, Equal, Greater}
-use Rattle.tq_shape.proofs.Orderings.{is_eq-Equal}
+use Rattle.tq_shape.proofs.Options.{is_eq-Equal}
 use Rattle.tq_store.specs.Copies.{name_cmp}
 use Rattle.tq_locks.specs.Locks.{LockKey, lock_cmp}
 use Rattle.tq_locks.specs.declared.mode.Lock.{Lock}
-use Rattle.tq_locks.proofs.Found.{some_same, none_some}
-use Rattle.tq_locks.proofs.LockMaps.{locks_total}
+use Rattle.tq_locks.proofs.Found.{some_same, none_some, locks_total}
 use Rattle.tq_intents.specs.Kept.{Votes, HasOneVoteEach, as_lock, stable_lock, lock_in, lock_of_votes, open_votes, kept_votes, kept_locks}
-use Rattle.tq_intents.specs.declared.record.KeptLock.{KeptLock}
 use Rattle.tq_intents.specs.declared.record.OpenVote.{OpenVote}
 use Rattle.tq_intents.specs.declared.record.Record.{Record}
+
+-- as many as there are locks
+pub length-kept_each : (held : List HeldLock) (versions : List ℕ) → length held ≡ length versions → length (kept_each held versions) ≡ length versions
+length-kept_each [] [] h = refl
+length-kept_each [] (v ∷ vs) h = absurd (omega (arith, h))
+length-kept_each (l ∷ ls) [] h = refl
+length-kept_each (l ∷ ls) (v ∷ vs) h = ap suc (length-kept_each ls vs (omega (arith, h)))
+
+-- a place of the locks is one of their versions
+pub within-versions : (held : List HeldLock) (versions : List ℕ) (list : List KeptLock) (place : ℕ) → length held ≡ length versions → kept_each held versions ≡ list → place < length list → place < length versions
+within-versions held versions list place h is lt = subst (λ n. place < n) (ap length (sym is) ∙ length-kept_each held versions h) lt
+
+-- the lock at a place
+pub get_or-kept_each : (held : List HeldLock) (versions : List ℕ) (place : ℕ) (d : KeptLock) → length held ≡ length versions → place < length versions → lock_at held place (get_or versions place 0) ≡ get_or (kept_each held versions) place d
+get_or-kept_each held [] place d h lt = absurd (omega (arith, lt))
+get_or-kept_each [] (v ∷ vs) place d h lt = absurd (omega (arith, h))
+get_or-kept_each (l ∷ ls) (v ∷ vs) zero d h lt = refl
+get_or-kept_each (l ∷ ls) (v ∷ vs) (suc place) d h lt = get_or-kept_each ls vs place d (omega (arith, h)) (omega (arith, lt))
+
+-- one lock more
+pub kept_each-push : (held : List HeldLock) (versions : List ℕ) (l : HeldLock) (v : ℕ) → length held ≡ length versions → kept_each (held ++ l ∷ []) (versions ++ v ∷ []) ≡ kept_each held versions ++ lock_of_vote l v ∷ []
+kept_each-push [] [] l v h = refl
+kept_each-push [] (w ∷ vs) l v h = absurd (omega (arith, h))
+kept_each-push (m ∷ ls) [] l v h = absurd (omega (arith, h))
+kept_each-push (m ∷ ls) (w ∷ vs) l v h = ap (λ rest. lock_of_vote m w ∷ rest) (kept_each-push ls vs l v (omega (arith, h)))
+
+pub length-pushed : (held : List HeldLock) (versions : List ℕ) (l : HeldLock) (v : ℕ) → length held ≡ length versions → length (held ++ l ∷ []) ≡ length (versions ++ v ∷ [])
+length-pushed held versions l v h = grind (arith, length-append, h)
+
+-- ---- kept locks
 
 abbrev Entry : Type 0
 Entry = ℕ × OpenVote

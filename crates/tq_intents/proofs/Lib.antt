@@ -1,9 +1,4 @@
-pub mod Above
-pub mod CopyPush
+pub mod DeadRecords
 pub mod CopiesPush
 pub mod Votes
-pub mod Gathered
 pub mod KeptLocks
-pub mod NewestCopies
-pub mod DeadRecords
-pub mod Sharing

@@ -1,10 +1,11 @@
--- What a list of stable records stands for: copies, open votes and their locks.
-use Rattle.std.specs.Prelude.{◌≡◌, ℕ, Bool, true, false, ◌&&◌, ◌==◌, ◌<◌, nat_lt, nat_le, max, ⊤, List, [], ◌∷◌, ◌++◌, map, Option, Some, None, if◌then◌else◌}
+-- What a list of stable records stands for: copies, open votes and their locks. The open votes by transaction, and
+-- what contracts see of a server's log. What changes in a server's log, and in the index of its open votes.
+use Rattle.std.specs.Prelude.{◌≡◌, ℕ, Bool, true, false, ◌&&◌, ◌==◌, ◌<◌, nat_lt, nat_le, max, ⊤, List, [], ◌∷◌, ◌++◌, map, Option, Some, None, if◌then◌else◌, refl}
 use Rattle.std.specs.FinMap as fin
 use Rattle.std.specs.List.{AllByRecursion, find, list_any, filter_map, flat_map}
 use Rattle.std.specs.Option.{option_and_then, option_map, option_map_or}
 use Rattle.std.specs.Ordering.{nat_cmp}
-use Rattle.tq_store.specs.Copies.{Files, copy_at, copy_in, copy_of, copies_after_install}
+use Rattle.tq_store.specs.Copies.{Files, copy_at, copy_in, copy_of, copies_after_install, installed_all}
 use Rattle.tq_store.specs.declared.write.Write.{Write}
 use Rattle.tq_locks.specs.Locks.{Locks, LockKey}
 use Rattle.tq_locks.specs.declared.mode.Lock.{Lock}
@@ -14,6 +15,10 @@ use Rattle.tq_intents.specs.declared.record.Record.{Record}
 use Rattle.tq_intents.specs.declared.record.Record.TheVariants.{Copy, Intent, Keep, Prepared, Gone}
 use Rattle.tq_shape.specs.Journal.{Has}
 use Rattle.tq_store.specs.Names.{same_name}
+use Rattle.std.specs.Coded.{Coded, code_by, coded×, coded_list, coded_ℕ}
+use Rattle.std.specs.BTreeMap.{is_at}
+use Rattle.std.specs.Map.{lookup}
+use Rattle.std.specs.Global.{Vec}
 
 -- the open votes, by transaction
 abbrev pub Votes : Type 0
@@ -144,3 +149,57 @@ HoldsVotesLocks list = (file : List ℕ) (txn : ℕ) → fin.get (kept_locks lis
 abbrev pub with_record : Files → Record → Files
 with_record files (Copy write) = copies_after_install files write.file (copy_in write)
 with_record files other = files
+
+-- ---- index
+
+-- what the entries have of each transaction is its open vote
+abbrev pub HasEachVote : List Record → List (ℕ × OpenVote) → Type 0
+HasEachVote records entries = (txn : ℕ) → lookup (is_at (nat_cmp txn)) entries ≡ fin.get (kept_votes records) txn
+
+-- the entries are the open votes, one for a transaction
+pub record IsIndex (records : List Record) (entries : List (ℕ × OpenVote)) : Type 0 where
+  pub one_each : HasOneVoteEach records
+  pub each : HasEachVote records entries
+
+-- the records, and how many more fit with no memory asked for
+pub record LogView : Type 0 where
+  pub records : List Record
+  pub room : ℕ
+
+abbrev pub log_code : Coded Record → Coded LogView
+log_code record_code = code_by (List Record × ℕ) (coded× (coded_list record_code) coded_ℕ) (λ v. (v.records, v.room)) (λ p. record { records = p.0; room = p.1 }) (λ _. refl)
+
+-- ---- changes
+
+-- the copies that the records keep are those from before with this write installed
+abbrev pub KeepsCopy : LogView → LogView → Write → Type 0
+KeepsCopy old new write = kept_copies new.records ≡ copies_after_install (kept_copies old.records) write.file (copy_in write)
+
+-- the copies that the records keep are those from before with these writes installed
+abbrev pub KeepsCopies : LogView → LogView → List Write → Type 0
+KeepsCopies old new writes = kept_copies new.records ≡ installed_all (kept_copies old.records) writes
+
+-- the records of a vote stand behind those from before
+abbrev pub WritesVote : LogView → LogView → ℕ → ℕ → List Write → List KeptLock → Type 0
+WritesVote old new txn number writes locks = new.records ≡ old.records ++ vote_records txn number writes locks
+
+-- the votes that the records keep open are those from before and this one
+abbrev pub OpensVote : LogView → LogView → ℕ → ℕ → List Write → List KeptLock → Type 0
+OpensVote old new txn number writes locks =
+    kept_votes new.records ≡ fin.insert (kept_votes old.records) txn (record { number = number; writes = writes; locks = locks })
+
+-- the records with the end of the open vote of a transaction behind them
+abbrev pub with_end : List Record → ℕ → List Record
+with_end list txn = list ++ Gone txn (vote_at (kept_votes list) txn).number ∷ []
+
+-- the records of a vote stand behind those from before, in the log's list
+abbrev pub AddsVote : Vec Record → Vec Record → ℕ → ℕ → List Write → List KeptLock → Type 0
+AddsVote old new txn number writes locks = new.items ≡ old.items ++ vote_records txn number writes locks
+
+-- the same of an open vote
+abbrev pub AddsOpenVote : Vec Record → Vec Record → ℕ → OpenVote → Type 0
+AddsOpenVote old new txn vote = AddsVote old new txn vote.number vote.writes vote.locks
+
+-- the index has this vote of the transaction, and of others what it had
+abbrev pub Indexes : List (ℕ × OpenVote) → List (ℕ × OpenVote) → ℕ → OpenVote → Type 0
+Indexes old new txn vote = (other : ℕ) → lookup (is_at (nat_cmp other)) new ≡ (if is_at (nat_cmp txn) other then Some vote else lookup (is_at (nat_cmp other)) old)

@@ -1,18 +1,13 @@
 //! The stable records of a server, with an index of its open votes.
 
-ghost use Rattle.std.specs.Prelude.{◌≡◌, ◌+◌, ◌<◌, ◌≤◌, ◌++◌, [], ◌∷◌, OnOk, OnErr, IfOk};
-ghost use Rattle.std.specs.Prelude.{map, length, take, IsSome};
+ghost use Rattle.std.specs.Prelude.{◌≡◌, ◌+◌, ◌<◌, ◌≤◌, ◌++◌, [], ◌∷◌, OnOk, OnErr, IfOk, map, length, take, IsSome};
 ghost use Rattle.std.specs.FinMap as fin;
 ghost use Rattle.std.specs.Option.{option_copied};
 ghost use Rattle.std.specs.List.{list_any, filter_map};
 ghost use Rattle.tq_store.specs.Copies.{installed_all};
-ghost use Rattle.tq_intents.specs.Changes.{with_end, AddsOpenVote, AddsVote, Indexes};
-ghost use Rattle.tq_intents.specs.Changes.{KeepsCopies, KeepsCopy, OpensVote, WritesVote};
-ghost use Rattle.tq_intents.specs.Index.{HasEachVote};
+ghost use Rattle.tq_intents.specs.Kept.{with_end, AddsOpenVote, AddsVote, Indexes, KeepsCopies, KeepsCopy, OpensVote, WritesVote, HasEachVote, kept_copies, kept_votes, vote_records, HasOneVoteEach, HoldsVotesLocks, IsAbove, IsUnfinished, KeepsNewest};
 ghost use Rattle.tq_intents.specs.Kept as spec;
 ghost use Rattle.tq_intents.specs.Sharing.{lock_of_vote};
-ghost use Rattle.tq_intents.specs.Kept.{kept_copies, kept_votes, vote_records, HasOneVoteEach};
-ghost use Rattle.tq_intents.specs.Kept.{HoldsVotesLocks, IsAbove, IsUnfinished, KeepsNewest};
 
 use crate::{KeptLock, LockVersions, NewerWrite, OpenVote, Record, SharedWrite, VoteLocks};
 use std::alloc::{AllocError, Global};
@@ -41,7 +36,7 @@ impl Drop for Intents {
 
 impl Model for Intents {
     ghost use Rattle.std.specs.Prelude.{List, vec_capacity, vec_len, ◌-◌};
-    ghost use Rattle.tq_intents.specs.Index.{IsIndex, LogView, log_code};
+    ghost use Rattle.tq_intents.specs.Kept.{IsIndex, LogView, log_code};
     ghost use Rattle.tq_intents.specs.contracts.record.Record as record_type;
 
     ghost Value = { LogView };

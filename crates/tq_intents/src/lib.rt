@@ -1,6 +1,6 @@
 //! What a server keeps through a crash: its stable records, and what they stand for.
 //!
-//! Definitions: `specs/Kept` (what a list of records keeps), `Sharing`; `Index` is the code's own word.
+//! Definitions: `specs/Kept` (what a list of records keeps), `Sharing`.
 #![tactic(auto)]
 
 mod intents;

@@ -1,5 +1,2 @@
-mod Leading
-mod Recording
-mod Answered
-mod Operating
 mod ShellLines
+mod Recording

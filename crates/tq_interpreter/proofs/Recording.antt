@@ -1,38 +1,161 @@
--- What a recorder notes of a step: it is told last, and all that was told leads to the journals after the step.
-use Rattle.std.proofs.Common.{◌≡◌, ◌∙◌, ℕ, suc, Bool, true, false, List, [], ◌∷◌, ◌++◌, Option, Some, None, Result, Ok, Err, length, append-nil, refl, sym, ap, subst}
+-- Jobs one after another, and what each asks. What a recorder notes of a step: it is told last, and all that was told
+-- leads to the journals after the step.
+use Rattle.std.specs.Int.{from_bool}
+use Rattle.std.proofs.Common.{◌≡◌, ◌∙◌, ◌+◌, ◌≤◌, ℕ, Bool, true, cond, List, [], ◌∷◌, ◌++◌, length, append_assoc, None, Err, false, refl, sym, ap, subst, arith, suc, Option, Some, Result, Ok, append-nil}
+use Rattle.std.proofs.lemmas.List.{length-append}
+use Rattle.tq_tables.specs.Journals.{JournalsView}
+use Rattle.tq_core.specs.declared.answer.Step.TheVariants as steps
+use Rattle.tq_core.specs.Steps.{world_after, IsTold, told_at, refuse_unfounded, refuse_entry, refuse_at, refusal, answer, world_with_step, server_journal, node_entry, desk_entry, view_entry}
+use Rattle.tq_asks.specs.declared.ask.NodeAsk.{NodeAsk}
+use Rattle.tq_asks.specs.declared.ask.NodeReply.{NodeReply}
+use Rattle.tq_txn.specs.declared.asker.Exchange.TheVariants as exchanges
+use Rattle.tq_shape.specs.declared.fault.AskFault.{AskFault}
+use Rattle.tq_shape.specs.declared.fault.AskFault.TheVariants as faults
+use Rattle.tq_txn.specs.Dialogue.{Told, Dialogue, Ends, AsksNode, AsksDesk, AsksView, then_line, node_exchange, fault_of_ask, unless_memory}
+use Rattle.tq_refresh.specs.declared.job.Job.{Job}
+use Rattle.tq_refresh.specs.Plan.{answer_in, mends_asked}
+use Rattle.tq_interpreter.specs.Answer.{LeadsOn, Mended, nothing_mended, behind, so_far, jobs_asked, with_job, job_text, count_text, refresh_asked, refresh_jobs, refreshed_text}
+use Rattle.tq_text.specs.Print.{printed_line, is_memory}
+use Rattle.tq_interpreter.specs.Recorded.{Ran, run_line, node_told, desk_told, view_told, untaken_at, step_refusal, told_by, RecorderView, IsReplayed, told_exchanges, step_of, Matches, Replays}
+use Rattle.tq_interpreter.proofs.ShellLines.{replays_on, then_ran, replays_push}
 use Rattle.std.specs.Prelude.{nat_le, if◌then◌else◌, OnOk, OnErr}
 use Rattle.std.specs.List.{flat_map}
 use Rattle.std.specs.Option.{option_map, unwrap_or}
-use Rattle.tq_asks.specs.declared.ask.NodeAsk.{NodeAsk}
 use Rattle.tq_desk.specs.declared.ask.DeskAsk.{DeskAsk}
 use Rattle.tq_live.specs.declared.view.ViewAsk.{ViewAsk}
-use Rattle.tq_tables.specs.Journals.{JournalsView}
 use Rattle.tq_node.specs.NodeJournal.{NodeEntry}
-use Rattle.tq_world.specs.declared.answer.Answer.{Answer}
-use Rattle.tq_world.specs.declared.answer.Refusal.{Refusal}
-use Rattle.tq_world.specs.declared.answer.Refusal.TheVariants as refusals
-use Rattle.tq_world.specs.declared.answer.Reply.TheVariants as replies
-use Rattle.tq_world.specs.declared.answer.Step.{Step}
-use Rattle.tq_world.specs.declared.answer.Step.TheVariants as steps
-use Rattle.tq_world.specs.declared.citation.Citation.{Citation}
-use Rattle.tq_world.specs.Founded.{unfounded_in_node_ask, unfounded_in_desk_ask}
-use Rattle.tq_world.specs.World.{item_at}
-use Rattle.tq_world.specs.Steps.{IsTold, told_at, refuse_unfounded, refuse_entry, refuse_at, refusal, answer, world_with_step, server_journal, node_entry, desk_entry, view_entry, world_after}
-use Rattle.tq_shape.specs.Steps.{state_at}
+use Rattle.tq_core.specs.declared.answer.Answer.{Answer}
+use Rattle.tq_core.specs.declared.answer.Refusal.{Refusal}
+use Rattle.tq_core.specs.declared.answer.Refusal.TheVariants as refusals
+use Rattle.tq_core.specs.declared.answer.Reply.TheVariants as replies
+use Rattle.tq_core.specs.declared.answer.Step.{Step}
+use Rattle.tq_core.specs.declared.citation.Citation.{Citation}
+use Rattle.tq_core.specs.Founded.{unfounded_in_node_ask, unfounded_in_desk_ask}
+use Rattle.tq_core.specs.World.{item_at}
+use Rattle.tq_shape.specs.Journal.{state_at}
 use Rattle.tq_shape.specs.declared.part.Part.{Part}
 use Rattle.tq_shape.specs.declared.part.Part.TheVariants as parts
-use Rattle.tq_asks.specs.declared.ask.NodeReply.{NodeReply}
 use Rattle.tq_desk.specs.declared.ask.DeskReply.{DeskReply}
 use Rattle.tq_live.specs.declared.view.ViewReply.{ViewReply}
 use Rattle.tq_txn.specs.declared.asker.Exchange.{Exchange}
-use Rattle.tq_txn.specs.declared.asker.Exchange.TheVariants as exchanges
-use Rattle.tq_part.specs.declared.fault.AskFault.{AskFault}
-use Rattle.tq_part.specs.declared.fault.AskFault.TheVariants as ask_faults
-use Rattle.tq_txn.specs.Dialogue.{Told, unless_memory}
-use Rattle.tq_core.specs.Asked.{refusal_of, told_by as told_step}
-use Rattle.tq_interpreter.specs.Asking.{untaken_at, step_refusal, told_by}
-use Rattle.tq_interpreter.specs.Recorded.{told_exchanges, step_of, Matches, Replays, IsReplayed}
-use Rattle.tq_interpreter.proofs.Leading.{replays_push}
+use Rattle.tq_core.specs.Service.{refusal_of, told_by as told_step}
+
+pub node_answered : (server : ℕ) (ask : NodeAsk) (told : Told NodeReply) (old new : RecorderView) → IsReplayed old → IsReplayed new → new.journals.levels ≡ old.journals.levels → new.told ≡ old.told ++ exchanges.Node server ask told ∷ []
+    → (told ≡ node_told old.journals server ask) × (new.journals ≡ world_after old.journals (steps.Node server ask))
+node_answered server ask told old new replayed_old replayed_new levels grew =
+    replays_on old new (exchanges.Node server ask told ∷ []) replayed_old replayed_new levels grew
+
+-- nor is anything told of one that was not taken
+pub node_refused : (server : ℕ) (ask : NodeAsk) (fault : AskFault) (old new : RecorderView) → is_memory (fault_of_ask fault) ≡ false → IsReplayed old → IsReplayed new → new.journals.levels ≡ old.journals.levels → new.told ≡ old.told ++ node_exchange server ask (Err fault)
+    → (None ≡ answer_in (node_told old.journals server ask)) × (new.journals ≡ world_after old.journals (steps.Node server ask))
+node_refused server ask faults.Memory old new fine replayed_old replayed_new levels grew = absurd cc
+node_refused server ask fault old new fine replayed_old replayed_new levels grew =
+    let is = node_answered server ask (Err fault) old new replayed_old replayed_new levels grew in
+    (ap answer_in is.0, is.1)
+
+-- three texts behind one another
+pub three_texts : (old a b c x y z : List ℕ) → x ≡ old ++ a → y ≡ x ++ b → z ≡ y ++ c → z ≡ old ++ (a ++ (b ++ c))
+three_texts old a b c x y z first second third =
+    third ∙ ap (λ t. t ++ c) (second ∙ ap (λ t. t ++ b) first) ∙ append_assoc (old ++ a) b c ∙ append_assoc old a (b ++ c)
+
+-- what a line that is run says by its end and the world after it
+abbrev at_end : {A : Type 0} (X : Type 0) → (A → JournalsView → X) → JournalsView → Dialogue A → X
+at_end X part old line = part (run_line old line).end (run_line old line).after
+
+-- two lines, the second by the first's end, are run one after the other
+then_of : {A B : Type 0} (X : Type 0) (part : B → JournalsView → X) (line : Dialogue A) (next : A → Dialogue B) (old : JournalsView)
+    → at_end X part old (then_line line next) ≡ at_end X part (run_line old line).after (next (run_line old line).end)
+then_of X part (Ends a) next old = refl
+then_of X part (AsksNode server ask more) next old = then_of X part (more (node_told old server ask)) next (world_after old (steps.Node server ask))
+then_of X part (AsksDesk ask more) next old = then_of X part (more (desk_told old ask)) next (world_after old (steps.Desk ask))
+then_of X part (AsksView ask more) next old = then_of X part (more (view_told old ask)) next (world_after old (steps.View ask))
+
+-- ---- jobs one after another
+
+-- a truth as a number
+pub counted : (b : Bool) → from_bool b ≡ cond b 1 0
+counted true = refl
+counted false = refl
+
+-- one more counts at most one
+pub counted_fits : (b : Bool) (count index : ℕ) → count ≤ index → count + from_bool b ≤ index + 1
+counted_fits true count index fits = omega (arith, fits)
+counted_fits false count index fits = omega (arith, fits)
+
+-- after one job more, the jobs left come to what all come to
+job_on : (X : Type 0) (part : Mended → JournalsView → X) (old after : JournalsView) (mended : Mended) (job : Job) (jobs : List Job) (refreshed : Bool)
+    → refreshed ≡ (run_line old (mends_asked job)).end → after ≡ (run_line old (mends_asked job)).after
+    → at_end X part after (jobs_asked (with_job mended job refreshed) jobs) ≡ at_end X part old (jobs_asked mended (job ∷ jobs))
+job_on X part old after mended job jobs refreshed is there =
+    let next = λ (done : Bool). jobs_asked (with_job mended job done) jobs in
+    (λ k. at_end X part (there k) (next (is k))) ∙ sym (then_of X part (mends_asked job) next old)
+
+-- the same jobs may be listed otherwise
+pub leads_from : {old new : JournalsView} {start done : Mended} {jobs some left : List Job} → some ≡ left → LeadsOn old start jobs new done some → LeadsOn old start jobs new done left
+leads_from {old = old} {new = new} {start = start} {done = done} {jobs = jobs} same leads = subst (λ (js : List Job). LeadsOn old start jobs new done js) same leads
+
+-- after one job more, the jobs behind it come to what all come to
+pub one_on : (old : JournalsView) (start : Mended) (jobs : List Job) (now after : JournalsView) (text_now text_after : List ℕ) (count number : ℕ) (job : Job) (left : List Job) (refreshed : Bool)
+    → LeadsOn old start jobs now (so_far text_now count) (job ∷ left) → refreshed ≡ (run_line now (mends_asked job)).end → after ≡ (run_line now (mends_asked job)).after
+    → text_after ≡ text_now ++ printed_line (job_text job refreshed) → number ≡ from_bool refreshed → LeadsOn old start jobs after (so_far text_after (count + number)) left
+one_on old start jobs now after text_now text_after count number job left refreshed leads is there said counts =
+    let before = so_far text_now count in
+    let is_with : so_far text_after (count + number) ≡ with_job before job refreshed = λ k. record { text = said k; count = count + (counts ∙ counted refreshed) k } in
+    record {
+      end = ap (λ m. (run_line after (jobs_asked m left)).end) is_with ∙ job_on Mended (λ m w. m) now after before job left refreshed is there ∙ leads.end;
+      after = ap (λ m. (run_line after (jobs_asked m left)).after) is_with ∙ job_on JournalsView (λ m w. w) now after before job left refreshed is there ∙ leads.after;
+    }
+
+-- ---- how many jobs there were, which are no more than the bytes that they left
+
+-- a line is a byte or more
+pub longer : (text_now text_after line : List ℕ) → text_after ≡ text_now ++ printed_line line → length text_now + 1 ≤ length text_after
+longer text_now text_after line said =
+    let long : length text_after ≡ length text_now + (length line + 1) =
+    ap length said ∙ length-append text_now (printed_line line) ∙ ap (λ n. length text_now + n) (length-append line (10 ∷ [])) in
+    omega (arith, long)
+
+-- ---- jobs behind a text
+
+-- one job's line goes behind what stands
+pub line_behind : (text : List ℕ) (mended : Mended) (job : Job) (refreshed : Bool) → with_job (behind text mended) job refreshed ≡ behind text (with_job mended job refreshed)
+line_behind text mended job refreshed = λ k. record { text = append_assoc text mended.text (printed_line (job_text job refreshed)) k; count = mended.count + cond refreshed 1 0 }
+
+-- and so do the lines of all jobs
+jobs_behind : (X : Type 0) (part : Mended → JournalsView → X) (text : List ℕ) (jobs : List Job) (mended : Mended) (old : JournalsView)
+    → at_end X part old (jobs_asked (behind text mended) jobs) ≡ at_end X (λ m w. part (behind text m) w) old (jobs_asked mended jobs)
+jobs_behind X part text [] mended old = refl
+jobs_behind X part text (job ∷ jobs) mended old =
+    let done = run_line old (mends_asked job) in
+    then_of X part (mends_asked job) (λ r. jobs_asked (with_job (behind text mended) job r) jobs) old
+    ∙ ap (λ m. at_end X part done.after (jobs_asked m jobs)) (line_behind text mended job done.end)
+    ∙ jobs_behind X part text jobs (with_job mended job done.end) done.after
+    ∙ sym (then_of X (λ m w. part (behind text m) w) (mends_asked job) (λ r. jobs_asked (with_job mended job r) jobs) old)
+
+-- ---- the whole line
+
+-- what all jobs of the plan came to, and how many they were, is what the line says
+pub refreshed_end : (old : JournalsView) (jobs : List Job) (before middle after : List ℕ) (count : ℕ) → jobs ≡ refresh_jobs old
+    → middle ≡ (run_line old (jobs_asked (behind before nothing_mended) jobs)).end.text → count ≡ (run_line old (jobs_asked (behind before nothing_mended) jobs)).end.count
+    → after ≡ middle ++ printed_line (count_text count (length jobs)) → after ≡ before ++ (run_line old (refresh_asked old)).end
+refreshed_end old jobs before middle after count planned texts counts said =
+    let came : Mended → List ℕ = λ m. m.text ++ printed_line (count_text m.count (length jobs)) in
+    let mended = (run_line old (jobs_asked nothing_mended jobs)).end in
+    let ran = then_ran (jobs_asked nothing_mended (refresh_jobs old)) (refreshed_text (length (refresh_jobs old))) old in
+    said ∙ (λ k. texts k ++ printed_line (count_text (counts k) (length jobs)))
+    ∙ ap came (jobs_behind Mended (λ m w. m) before jobs nothing_mended old)
+    ∙ append_assoc before mended.text (printed_line (count_text mended.count (length jobs)))
+    ∙ ap (λ all. before ++ refreshed_text (length all) (run_line old (jobs_asked nothing_mended all)).end) planned
+    ∙ ap (λ (r : Ran (List ℕ)). before ++ r.end) (sym ran)
+
+pub refreshed_after : (old : JournalsView) (jobs : List Job) (before : List ℕ) (after : JournalsView) → jobs ≡ refresh_jobs old → after ≡ (run_line old (jobs_asked (behind before nothing_mended) jobs)).after
+    → after ≡ (run_line old (refresh_asked old)).after
+refreshed_after old jobs before after planned leads =
+    let ran = then_ran (jobs_asked nothing_mended (refresh_jobs old)) (refreshed_text (length (refresh_jobs old))) old in
+    leads ∙ jobs_behind JournalsView (λ m w. w) before jobs nothing_mended old
+    ∙ ap (λ all. (run_line old (jobs_asked nothing_mended all)).after) planned ∙ ap (λ (r : Ran (List ℕ)). r.after) (sym ran)
+
+-- ---- recording
 
 -- ---- the tree stays
 
@@ -62,25 +185,25 @@ taken_at : (world : JournalsView) (part : Part) (entries : ℕ) (unfounded : Opt
 taken_at world part entries unfounded = by (nat_le world.limits.entries entries) unfounded
   where
     by : (full : Bool) (c : Option Citation) → (if full then Some (refusals.JournalFull part) else refuse_unfounded c) ≡ None
-        → (if full then Some (ask_faults.JournalFull part) else option_map (λ (citation : Citation). ask_faults.Unfounded citation.part citation.number) c) ≡ None
+        → (if full then Some (faults.JournalFull part) else option_map (λ (citation : Citation). faults.Unfounded citation.part citation.number) c) ≡ None
     by true c is = absurd (let some : Path (Option Refusal) (Some (refusals.JournalFull part)) None = is in cc)
     by false None is = refl
     by false (Some citation) is = absurd (let some : Path (Option Refusal) (Some (refusals.Unfounded citation.part citation.number)) None = is in cc)
 
 same_fault : (one two : AskFault) → Path (Option Refusal) (Some (refusal_of one)) (Some (refusal_of two)) → one ≡ two
-same_fault ask_faults.Memory ask_faults.Memory is = refl
-same_fault (ask_faults.JournalFull part) (ask_faults.JournalFull other) is = cc
-same_fault (ask_faults.Unfounded part number) (ask_faults.Unfounded other cited) is = cc
+same_fault faults.Memory faults.Memory is = refl
+same_fault (faults.JournalFull part) (faults.JournalFull other) is = cc
+same_fault (faults.Unfounded part number) (faults.Unfounded other cited) is = cc
 same_fault one two is = absurd cc
 
 untaken_is : (world : JournalsView) (part : Part) (entries : ℕ) (unfounded : Option Citation) (fault : AskFault) → refuse_entry world part entries unfounded ≡ Some (refusal_of fault) → untaken_at world part entries unfounded ≡ Some fault
 untaken_is world part entries unfounded fault = by (nat_le world.limits.entries entries) unfounded
   where
     by : (full : Bool) (c : Option Citation) → (if full then Some (refusals.JournalFull part) else refuse_unfounded c) ≡ Some (refusal_of fault)
-        → (if full then Some (ask_faults.JournalFull part) else option_map (λ (citation : Citation). ask_faults.Unfounded citation.part citation.number) c) ≡ Some fault
-    by true c is = ap (λ (f : AskFault). Some f) (same_fault (ask_faults.JournalFull part) fault is)
+        → (if full then Some (faults.JournalFull part) else option_map (λ (citation : Citation). faults.Unfounded citation.part citation.number) c) ≡ Some fault
+    by true c is = ap (λ (f : AskFault). Some f) (same_fault (faults.JournalFull part) fault is)
     by false None is = absurd (let none : Path (Option Refusal) None (Some (refusal_of fault)) = is in cc)
-    by false (Some citation) is = ap (λ (f : AskFault). Some f) (same_fault (ask_faults.Unfounded citation.part citation.number) fault is)
+    by false (Some citation) is = ap (λ (f : AskFault). Some f) (same_fault (faults.Unfounded citation.part citation.number) fault is)
 
 -- the same at a server, which is there where it refuses for one of these causes, or for none
 taken_there : (world : JournalsView) (server : ℕ) (journal : Option (List NodeEntry)) (unfounded : Option Citation) → refuse_at world server journal unfounded ≡ None
@@ -89,7 +212,7 @@ taken_there world server None unfounded is = absurd (let some : Path (Option Ref
 taken_there world server (Some entries) unfounded is = taken_at world (parts.Server server) (length entries) unfounded is
 
 no_fault : (fault : AskFault) → Path (Option Refusal) (Some refusals.NoSuchServer) (Some (refusal_of fault)) → ⊥
-no_fault ask_faults.Memory is = cc
+no_fault faults.Memory is = cc
 no_fault fault is = cc
 
 untaken_there : (world : JournalsView) (server : ℕ) (journal : Option (List NodeEntry)) (unfounded : Option Citation) (fault : AskFault) → refuse_at world server journal unfounded ≡ Some (refusal_of fault)
@@ -138,7 +261,7 @@ module _ (old new : JournalsView) (told : List Exchange) (kept : IsReplayed (rec
   -- an ask that was not taken
   unasked : (step : Step) (fault : AskFault) (h : Exchange) → step_of h ≡ step → (step_refusal old step ≡ Some fault → Matches old h) → IsTold old step (Err (refusal_of fault)) → new ≡ old
       → IsAsked old new (told ++ unless_memory fault h)
-  unasked step ask_faults.Memory h steps_are matches answered same =
+  unasked step faults.Memory h steps_are matches answered same =
       subst (λ (w : JournalsView). IsAsked old w (told ++ [])) (sym same) (subst (λ (t : List Exchange). IsAsked old old t) (sym (append-nil told)) (record { kept = kept; tree = refl }))
   unasked step fault h steps_are matches answered same =
       let refuses = told_err (refusal old step) (answer old step) (refusal_of fault) answered in

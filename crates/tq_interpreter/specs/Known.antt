@@ -6,9 +6,9 @@ use Rattle.tq_shape.specs.Limits.{LimitsView}
 use Rattle.tq_asks.specs.declared.ask.Verdict.{Verdict}
 use Rattle.tq_txn.specs.declared.txn.Txn.{Txn}
 use Rattle.tq_txn.specs.declared.txn.Txn.TheVariants as states
-use Rattle.tq_txn.specs.States.{levels_of}
+use Rattle.tq_txn.specs.Told.{levels_of}
 use Rattle.tq_txn_states.specs.Open as first
-use Rattle.tq_world.specs.World.{item_at}
+use Rattle.tq_core.specs.World.{item_at}
 use Rattle.tq_interpreter.specs.declared.txn_slot.TxnSlot.{TxnSlot}
 use Rattle.tq_interpreter.specs.declared.txn_slot.Ending.{Ending}
 

@@ -1,11 +1,6 @@
-pub mod Asking
 pub mod Recorded
-pub mod Progress
 pub mod Known
 pub mod TxnAsked
-pub mod States
-pub mod Operators
-pub mod Asked
 pub mod Answer
 pub use Rattle.tq_live.specs.Live
 pub use Rattle.tq_live.specs.View

@@ -1,5 +1,6 @@
--- What each line of a transaction asks, in order, each as the answers before demand, and what it makes of the answers: the
--- text that is printed, and what is kept of the transaction afterwards. All from what was kept before.
+-- What each line of a transaction asks, in order, each as the answers before demand, and what it makes of the answers:
+-- the text that is printed, and what is kept of the transaction afterwards. All from what was kept before. The states
+-- that lines of a transaction want, as the shell tests for them.
 use Rattle.std.specs.Prelude.{◌≡◌, ℕ, Bool, false, not, cond, List, [], ◌∷◌, ◌++◌, filter, Option, Some, None, Result, Ok, Err, codes}
 use Rattle.std.specs.Fmt.{decimal}
 use Rattle.tq_desk.specs.declared.ask.DeskAsk.TheVariants as desk_asks
@@ -8,8 +9,8 @@ use Rattle.tq_desk.specs.declared.ask.DeskReply.TheVariants as desk_replies
 use Rattle.tq_live.specs.View.{is_server}
 use Rattle.tq_asks.specs.declared.ask.WorkAsk.TheVariants.{Decide}
 use Rattle.tq_txn.specs.declared.fault.LineFault.{LineFault}
-use Rattle.tq_txn.specs.declared.read_answer.ReadAnswer.{ReadAnswer}
-use Rattle.tq_txn.specs.declared.applying.Applied.{Applied}
+use Rattle.tq_txn.specs.declared.txn.ReadAnswer.{ReadAnswer}
+use Rattle.tq_txn.specs.declared.txn.Applied.{Applied}
 use Rattle.tq_txn_states.specs.declared.told.DeskTold.{DeskTold}
 use Rattle.tq_txn.specs.declared.txn.Txn.{Txn}
 use Rattle.tq_txn.specs.declared.txn.Txn.TheVariants as states
@@ -17,11 +18,9 @@ use Rattle.tq_txn_states.specs.Ended.{resolve_verdict}
 use Rattle.tq_txn.specs.Dialogue as asks
 use Rattle.tq_txn.specs.Dialogue.{LineEnd, Ends, then_line, desk_line}
 use Rattle.tq_txn.specs.Lines as lines
-use Rattle.tq_txn.specs.Commits.{decide_line, commit_line}
-use Rattle.tq_txn.specs.Aborts.{abort_line}
-use Rattle.tq_txn_states.specs.Open.{OpenView, op_read, op_written}
+use Rattle.tq_txn.specs.Commits.{decide_line, commit_line, abort_line}
+use Rattle.tq_txn_states.specs.Open.{OpenView, op_read, op_written, close_fault}
 use Rattle.tq_txn_states.specs.Voting.{VotingView, voting_of, has_vote}
-use Rattle.tq_txn_states.specs.Open.{close_fault}
 use Rattle.tq_txn_states.specs.declared.fault.TxnFault.{TxnFault}
 use Rattle.tq_interpreter.specs.declared.txn_slot.TxnSlot.{TxnSlot}
 use Rattle.tq_interpreter.specs.declared.txn_slot.Ending.{Ending}
@@ -34,11 +33,12 @@ use Rattle.tq_interpreter.specs.declared.server_lines.Phase.{Phase}
 use Rattle.tq_interpreter.specs.declared.server_lines.Phase.TheVariants as duties
 use Rattle.tq_syntax.specs.declared.line.TxnLine.{TxnLine}
 use Rattle.tq_syntax.specs.declared.line.TxnLine.TheVariants as of
-use Rattle.tq_interpreter.specs.Asking.{run_line}
-use Rattle.tq_interpreter.specs.Progress.{Progress}
+use Rattle.tq_interpreter.specs.Recorded.{run_line, Progress}
 use Rattle.tq_interpreter.specs.Known.{in_state, with_told, ending_in}
-use Rattle.tq_text.specs.Print.{printed_line, reading_text, writing_text, applied_text, verdict_text}
-use Rattle.tq_text.specs.Refusals.{fault_text, is_memory, txn_fault_text, decided_text, desk_refusal_text}
+use Rattle.tq_text.specs.Print.{printed_line, reading_text, writing_text, applied_text, verdict_text, fault_text, is_memory, txn_fault_text, decided_text, desk_refusal_text}
+use Rattle.tq_txn.specs.Told.{levels_of}
+use Rattle.tq_interpreter.specs.declared.states.Closed.{Closed}
+use Rattle.tq_interpreter.specs.declared.states.Closed.TheVariants as closed
 
 -- what a line of one transaction says, and what is kept of the transaction then
 pub record TxnAnswer : Type 0 where
@@ -237,3 +237,13 @@ pub record IsAnswered (line : asks.Dialogue TxnAnswer) (old new : Progress) (lef
   pub text : new.text ≡ old.text ++ printed_line (run_line old.journals line).end.text
   pub journals : new.journals ≡ (run_line old.journals line).after
   pub kept : left ≡ (run_line old.journals line).end.kept
+
+-- ---- states
+
+-- a line that wants a transaction which gathers votes says this in its place
+abbrev pub SaysNotVoting : Txn → List ℕ → Type 0
+SaysNotVoting txn said = (kept : TxnSlot) (next : VotingView → asks.Dialogue TxnAnswer) → voting_in kept txn next ≡ txn_said kept said
+
+abbrev pub IsClosed : Txn → Closed → List ℕ → List ℕ → Type 0
+IsClosed txn (closed.Voting old) before after = (after ≡ before) × (levels_of txn ≡ old.txn.levels) × ((kept : TxnSlot) (next : VotingView → asks.Dialogue TxnAnswer) → voting_in kept txn next ≡ next old)
+IsClosed txn (closed.Said back) before after = (said : List ℕ) × (after ≡ before ++ printed_line said) × (back ≡ txn) × SaysNotVoting txn said

@@ -1,9 +1,9 @@
 //! The lines of a transaction that abort it and that ask how it ended.
 ghost use Rattle.std.specs.Prelude.{◌≡◌, ◌++◌, [], false, codes, IfOk, OnOk, OnErr};
-ghost use Rattle.tq_txn.specs.States.{levels_of};
+ghost use Rattle.tq_txn.specs.Told.{levels_of};
 ghost use Rattle.tq_interpreter.specs.TxnAsked as spec;
 ghost use Rattle.tq_text.specs.Print.{Extends, printed_line, Prints};
-ghost use Rattle.tq_interpreter.specs.Progress.{progress_of};
+ghost use Rattle.tq_interpreter.specs.Recorded.{progress_of};
 
 use crate::recorder::Recorder;
 use crate::states::stand_in;

@@ -1,7 +1,7 @@
 //! A session of the shell of a tree of servers, line by line: the service that lines are asked of, what each line asks,
 //! the lines of transactions and of operators, and what is answered.
 //!
-//! Definitions: `specs/Asked` and `TxnAsked` (what lines ask), `Operators`, `Answer`; `Recorded` is the code's own word.
+//! Definitions: `specs/Answer` and `TxnAsked` (what lines ask); `Recorded` is the code's own word.
 #![tactic(auto)]
 
 mod answering;

@@ -1,11 +1,11 @@
 //! The lines of a transaction that read and write.
 ghost use Rattle.std.specs.Prelude.{◌≡◌, ◌++◌, [], false, IfOk, OnOk, OnErr};
-ghost use Rattle.tq_txn.specs.States.{levels_of};
+ghost use Rattle.tq_txn.specs.Told.{levels_of};
 ghost use Rattle.tq_txn.specs.declared.txn.Txn.TheVariants as states;
 ghost use Rattle.tq_interpreter.specs.Known.{in_state};
 ghost use Rattle.tq_interpreter.specs.TxnAsked as spec;
 ghost use Rattle.tq_text.specs.Print.{Extends, printed_line, Prints};
-ghost use Rattle.tq_interpreter.specs.Progress.{progress_of};
+ghost use Rattle.tq_interpreter.specs.Recorded.{progress_of};
 
 use crate::recorder::Recorder;
 use crate::states::say_decided;

@@ -2,25 +2,22 @@
 ghost use Rattle.std.specs.Prelude.{◌≡◌, ◌≤◌, ◌+◌, ◌++◌, List, length, true, false, IfOk, OnOk, OnErr, string_bytes};
 ghost use Rattle.std.specs.Fmt.{decimal};
 ghost use Rattle.std.specs.Option.{option_map};
-ghost use Rattle.tq_world.specs.Steps.{world_after};
-ghost use Rattle.tq_world.specs.declared.answer.Step.TheVariants as steps;
-ghost use Rattle.tq_refresh.specs.Mending.{answer_in, is_refreshed, mends_asked};
-ghost use Rattle.tq_refresh.specs.Plan.{ArePlanned, IsPlanned, jobs_in, jobs_of_plan, peek_of};
+ghost use Rattle.tq_core.specs.Steps.{world_after};
+ghost use Rattle.tq_core.specs.declared.answer.Step.TheVariants as steps;
+ghost use Rattle.tq_refresh.specs.Plan.{answer_in, is_refreshed, mends_asked, ArePlanned, IsPlanned, jobs_in, jobs_of_plan, peek_of};
 ghost use Rattle.tq_refresh.specs.declared.job.Job.{Job};
 ghost use Rattle.tq_txn.specs.Dialogue.{fault_of_ask};
-ghost use Rattle.tq_interpreter.specs.Asking.{node_told, run_line};
-ghost use Rattle.tq_interpreter.specs.Operators as spec;
-ghost use Rattle.tq_text.specs.Print.{Extends, printed_line, Appends, Prints};
-ghost use Rattle.tq_text.specs.Refusals.{is_memory};
+ghost use Rattle.tq_interpreter.specs.Recorded.{node_told, run_line};
+ghost use Rattle.tq_interpreter.specs.Answer as spec;
+ghost use Rattle.tq_text.specs.Print.{Extends, printed_line, Appends, Prints, is_memory};
 
 use crate::recorder::{Recorder, copy_of_node_ask};
 use std::alloc::{AllocError, Global};
 use tq_asks::{NodeAsk, NodeReply};
 use tq_board_text::render;
 use tq_core::Service;
-use tq_part::{Answered, AskFault};
 use tq_refresh::{FileJobs, Job, PlanByFile, copy_ask_of, plan_by_file};
-use tq_shape::{Memory, ServerId, ServerSet};
+use tq_shape::{Answered, AskFault, Memory, ServerId, ServerSet};
 use tq_store::FileName;
 use tq_text::{push_at, say_number};
 

@@ -12,8 +12,7 @@ use tq_asks::{NodeAsk, NodeReply};
 use tq_core::Service;
 use tq_desk::DeskAsk;
 use tq_live::ViewAsk;
-use tq_part::Answered;
-use tq_shape::{Levels, Limits, Memory, ServerId};
+use tq_shape::{Answered, Levels, Limits, Memory, ServerId};
 use tq_txn::{AskFault, Asker, DeskTold, Exchange, NodeTold, ViewTold};
 
 /// A service that is asked. Contracts see beside it what was told of its asks, in their order; no memory is taken for
@@ -36,7 +35,7 @@ impl Model for Recorder {
 
 impl Recorder {
     ghost use Rattle.std.specs.Prelude.{◌≡◌, ◌++◌, [], IfOk};
-    ghost use Rattle.tq_world.specs.World.{empty_world};
+    ghost use Rattle.tq_core.specs.World.{empty_world};
     ghost use Rattle.tq_interpreter.specs.Recorded.{full_limits, told_exchanges, IsReplayed};
     ghost use Rattle.tq_txn.specs.declared.asker.Exchange.TheVariants as exchanges;
 

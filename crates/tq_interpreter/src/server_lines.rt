@@ -1,11 +1,11 @@
 //! The lines of a transaction at one of the servers: its vote, and the verdict that it is told.
 ghost use Rattle.std.specs.Prelude.{◌≡◌, ◌++◌, ◌∷◌, [], false, cond, Some, None, codes, IfOk, OnOk, OnErr};
 ghost use Rattle.std.specs.Fmt.{decimal};
-ghost use Rattle.tq_txn.specs.States.{levels_of};
+ghost use Rattle.tq_txn.specs.Told.{levels_of};
 ghost use Rattle.tq_interpreter.specs.TxnAsked as spec;
 ghost use Rattle.tq_interpreter.specs.Known.{in_state};
 ghost use Rattle.tq_text.specs.Print.{Extends, printed_line, applied_text, Prints};
-ghost use Rattle.tq_interpreter.specs.Progress.{progress_of};
+ghost use Rattle.tq_interpreter.specs.Recorded.{progress_of};
 
 use crate::recorder::Recorder;
 use crate::states::{Closed, ending_of, stand_in, voting_of};

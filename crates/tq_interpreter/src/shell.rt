@@ -2,9 +2,9 @@
 
 ghost use Rattle.std.specs.Prelude.{◌≡◌, ◌++◌, ◌<◌, ◌+◌, ℕ, [], false, length, None, IfOk, OnOk, OnErr, IfSome, IsNone, vec_len, vec_capacity};
 ghost use Rattle.tq_txn.specs.Dialogue.{line_result};
-ghost use Rattle.tq_txn.specs.States.{levels_of};
+ghost use Rattle.tq_txn.specs.Told.{levels_of};
 ghost use Rattle.std.specs.Fmt.{decimal};
-ghost use Rattle.tq_interpreter.specs.Asked as asked;
+ghost use Rattle.tq_interpreter.specs.Answer as asked;
 ghost use Rattle.tq_interpreter.specs.Known as known;
 ghost use Rattle.tq_interpreter.specs.TxnAsked as said;
 ghost use Rattle.tq_text.specs.Print.{Extends, printed_line, mark_word, Appends, Prints};
@@ -15,14 +15,13 @@ use crate::recorder::Recorder;
 use crate::txn_slot::TxnSlot;
 use std::alloc::Global;
 use std::marker::Model;
-use tq_client::mark_server;
 use tq_core::Service;
 use tq_desk::{DeskAsk, DeskReply};
 use tq_live::{Purpose, ViewAsk, is_cost};
 use tq_shape::{Levels, Limits, Memory, ServerId};
 use tq_syntax::Line;
 use tq_text::{push_desk_refusal, say_choice, say_fault, say_line, say_number};
-use tq_txn::{AskFault, Asker, DeskTold, LineFault, Open, Txn, ViewTold};
+use tq_txn::{AskFault, Asker, DeskTold, LineFault, Open, Txn, ViewTold, mark_server};
 
 /// A service that lines are asked of, and what is known of the transactions.
 #[derive(Drop)]

@@ -1,11 +1,10 @@
 //! The states of a transaction, as its lines want them.
 ghost use Rattle.std.specs.Prelude.{◌≡◌, ◌++◌, OnOk, OnErr, IfOk};
 ghost use Rattle.std.specs.Option.{option_map};
-ghost use Rattle.tq_text.specs.Print.{Extends, printed_line, Prints};
+ghost use Rattle.tq_text.specs.Print.{Extends, printed_line, Prints, decided_text};
 ghost use Rattle.tq_interpreter.specs.Known.{ending_in};
-ghost use Rattle.tq_text.specs.Refusals.{decided_text};
-ghost use Rattle.tq_txn.specs.States.{levels_of};
-ghost use Rattle.tq_interpreter.specs.States as spec;
+ghost use Rattle.tq_txn.specs.Told.{levels_of};
+ghost use Rattle.tq_interpreter.specs.TxnAsked as spec;
 
 use crate::txn_slot::{Ending, TxnSlot};
 use std::alloc::Global;

@@ -11,7 +11,7 @@ use tq_asks::{NodeAsk, NodeReply};
 use tq_core::Service;
 use tq_desk::{DeskAsk, DeskReply};
 use tq_live::{ViewAsk, ViewReply};
-use tq_part::{Answered, AskFault};
+use tq_shape::{Answered, AskFault};
 use tq_txn::Exchange;
 
 /// What was told before, and an ask with its answer.

@@ -1,11 +1,22 @@
--- The grammar's loops, a turn at a time, under the conversion to data.
-use Rattle.std.proofs.Common.{◌≡◌, ℕ, zero, suc, ◌-◌, ◌<◌, ◌≤◌, List, length, Option, Some, None, option_map, option_and_then, refl, ap, ◌∙◌}
+-- Lists of values of one form, value by value. The grammar's loops, a turn at a time, under the conversion to data.
+use Rattle.std.proofs.Common.{◌≡◌, List, [], ◌++◌, Option, Some, None, refl, ℕ, zero, suc, ◌-◌, ◌<◌, ◌≤◌, length, option_map, option_and_then, ap, ◌∙◌}
 use Rattle.json.specs.Token.{Token}
 use Rattle.json.specs.Json as json
 use Rattle.json.specs.Json.{Parse, parse_map, after_end_array, read_key, items_step, items, members, if_last}
 use Rattle.json.proofs.Grammar.{items_end, items_more, members_end, members_no_key, members_more}
 use Rattle.serde_json.specs.Data.{Data, array, object, no_items, item, Members, no_members, put}
 use Rattle.serde_json.specs.Read.{of_json, of_items, of_members, converted}
+
+-- what was read so far, before the rest
+abbrev pub with_front : {A : Type 0} → List A → Option (List A) → Option (List A)
+with_front front None = None
+with_front front (Some rest) = Some (front ++ rest)
+
+pub no_front : {A : Type 0} (o : Option (List A)) → with_front [] o ≡ o
+no_front None = refl
+no_front (Some rest) = refl
+
+-- ---- loops
 
 abbrev pick : {A : Type 0} → A → Option A → A
 pick d None = d

@@ -1,11 +1,14 @@
--- The next value of a reader, as the data that `serde_json` reads.
-use Rattle.std.specs.Prelude.{◌≡◌, ℕ, Bool, List, length, Option, Some, None, option_map, option_and_then, IsUtf8}
+-- The next value of a reader, as the data that `serde_json` reads. Values that are passed over: what is left behind a
+-- list or an object that is open.
+use Rattle.std.specs.Prelude.{◌≡◌, ℕ, Bool, List, length, Option, Some, None, option_map, option_and_then, IsUtf8, zero, suc, true, false, ◌∷◌}
 use Rattle.std.specs.Borrow.{Bor}
 use Rattle.json.specs.Token.{Token}
 use Rattle.json.specs.Json.{value, items, members}
 use Rattle.serde_json.specs.Data.{Num, Data, Items, Members, no_members}
 use Rattle.serde_json.specs.Read.{number_of, of_json, of_items, of_members, converted}
 use Rattle.serde_json.specs.Find.{get, as_u64, as_str, as_number, as_bool}
+use Rattle.json.specs.Reads.{token_of}
+use Rattle.json.specs.declared.token.Token as read
 
 -- the value that the tokens begin with, where it is JSON with each number in range, and the tokens behind it
 abbrev pub next : ℕ → List Token → Option (Data × List Token)
@@ -46,3 +49,44 @@ IsWhole whole text = (n : Num) × (number_of text ≡ Some n) × (whole ≡ as_u
 -- nothing stands at any name
 abbrev pub HasNoNames : Data → Type 0
 HasNoNames d = (name : List ℕ) → get name d ≡ None
+
+-- ---- behind
+
+-- the value that the token begins, and the tokens behind it
+abbrev pub next_from : ℕ → read.Token → List Token → Option (Data × List Token)
+next_from depth token ts = next depth (token_of token ∷ ts)
+
+-- the tokens behind what was read
+abbrev pub behind : {A : Type 0} → Option (A × List Token) → Option (List Token)
+behind read = option_map (λ p. p.1) read
+
+-- the tokens behind a list that is open, or an object (`true`)
+abbrev pub tokens_behind : Bool → ℕ → List Token → Option (List Token)
+tokens_behind false depth ts = behind (next_items depth ts)
+tokens_behind true depth ts = behind (next_members depth ts)
+
+-- the tokens behind one that is opened here, at that depth
+abbrev pub tokens_behind_next : Bool → ℕ → List Token → Option (List Token)
+tokens_behind_next kind zero ts = None
+tokens_behind_next kind (suc depth) ts = tokens_behind kind depth ts
+
+-- a value begins with the token: it is the token alone, or a list or an object
+abbrev pub Begins : Token → Option Bool → Type 0
+Begins t None = (depth : ℕ) (ts : List Token) → behind (next depth (t ∷ ts)) ≡ Some ts
+Begins t (Some kind) = (depth : ℕ) (ts : List Token) → behind (next depth (t ∷ ts)) ≡ tokens_behind_next kind depth ts
+
+-- no value begins with the token
+abbrev pub BeginsNone : Token → Type 0
+BeginsNone t = (depth : ℕ) (ts : List Token) → next depth (t ∷ ts) ≡ None
+
+-- what is open ends between the tokens
+abbrev pub Ends : Bool → List Token → List Token → Type 0
+Ends kind ts rest = (depth : ℕ) → tokens_behind kind depth ts ≡ Some rest
+
+-- what is open goes on with a value, which the later tokens begin with
+abbrev pub GoesOn : Bool → List Token → List Token → Type 0
+GoesOn kind ts rest = (depth : ℕ) → tokens_behind kind depth ts ≡ option_and_then (tokens_behind kind depth) (behind (next depth rest))
+
+-- what is open does neither
+abbrev pub Fails : Bool → List Token → Type 0
+Fails kind ts = (depth : ℕ) → tokens_behind kind depth ts ≡ None

@@ -1,7 +1,7 @@
 //! Names and contents of files as texts.
 
 ghost use Rattle.std.specs.Prelude.{◌≡◌, IfOk};
-ghost use Rattle.tq_json.specs.Content as spec;
+ghost use Rattle.tq_json.specs.Member as spec;
 
 use crate::format::Format;
 use hex::FromHexError;

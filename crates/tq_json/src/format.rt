@@ -1,7 +1,7 @@
 //! The formats of journal files.
 
 ghost use Rattle.std.specs.Prelude.{◌≡◌, ◌≤◌};
-ghost use Rattle.tq_json.specs.Format as spec;
+ghost use Rattle.tq_json.specs.Member as spec;
 
 /// The formats of journal files that are read. The second alone is written.
 #[derive(Clone, Copy, Debug, PartialEq, Eq)]

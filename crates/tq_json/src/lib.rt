@@ -1,7 +1,7 @@
 //! JSON as the data that `serde_json` reads, value by value from a reader, and what stands in the objects of journal files.
 //!
-//! Definitions: `specs/Next` (the next value of a reader), `Behind` (what stands behind what is open), `Member` (what stands
-//! at a name), `Format` (what differs between formats), `Content`.
+//! Definitions: `specs/Next` (the next value of a reader, and what stands behind what is open), `Member` (what stands at a
+//! name, and what differs between formats).
 #![tactic(auto)]
 
 mod content;
@@ -11,7 +11,6 @@ mod leaf;
 mod number;
 mod opening;
 mod passing;
-mod utf8;
 mod word;
 
 pub use content::{content_of, name_of};
@@ -21,5 +20,4 @@ pub use json::{Reader, Scratch};
 pub use leaf::{take_flag, take_text, take_whole};
 pub use opening::{open_array, open_object};
 pub use passing::{pass_items, pass_over};
-pub use utf8::text_of_bytes;
-pub use word::is_text;
+pub use word::{is_text, text_of_bytes};

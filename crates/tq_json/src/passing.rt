@@ -2,8 +2,7 @@
 ghost use Rattle.std.specs.Prelude.{◌≡◌, ◌≤◌, ◌<◌, ◌∷◌, ℕ, ⊤, length, Some, None, Err, IfOk, OnOk, OnErr};
 ghost use Rattle.std.specs.Bool.{MatchBool, OnTrue};
 ghost use Rattle.json.specs.Reads.{token_of};
-ghost use Rattle.tq_json.specs.Next.{next, next_items, Found};
-ghost use Rattle.tq_json.specs.Behind.{next_from, tokens_behind, Begins, BeginsNone, Ends, GoesOn, Fails};
+ghost use Rattle.tq_json.specs.Next.{next, next_items, Found, next_from, tokens_behind, Begins, BeginsNone, Ends, GoesOn, Fails};
 
 use crate::fault::NotRead;
 use crate::number::is_in_range;

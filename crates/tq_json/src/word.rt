@@ -1,7 +1,8 @@
-//! Words that are compared.
+//! Words that are compared, and bytes as UTF-8.
 
-ghost use Rattle.std.specs.Prelude.{◌≡◌};
+ghost use Rattle.std.specs.Prelude.{◌≡◌, IsUtf8, MatchOption};
 ghost use Rattle.std.specs.Str.{bytes_eq};
+ghost use Rattle.tq_json.specs.Next.{IsTextOfBytes};
 
 /// Whether the two are the same. It is compiled into its callers, for a text that is known to them.
 #[inline(always)]
@@ -20,4 +21,11 @@ pub fn is_text(word: &str, text: &str) -> bool
         same = (bytes[place] == wanted[place]) & same;
     }
     same
+}
+
+/// The text that the bytes are: `None` where they are no UTF-8.
+pub fn text_of_bytes<'a>(bytes: &'a [u8]) -> Option<&'a str>
+    ensures { MatchOption result (¬ IsUtf8 bytes.now) (λ text. IsTextOfBytes bytes.now text.now) }
+{
+    simdutf8::compat::from_utf8(bytes).ok()
 }

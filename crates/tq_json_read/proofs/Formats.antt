@@ -4,11 +4,9 @@ use Rattle.std.proofs.lemmas.Bool.{eqb-true}
 use Rattle.serde_json.specs.Data.{Data}
 use Rattle.tq_json.specs.declared.format.Format.{Format}
 use Rattle.tq_json.specs.declared.format.Format.TheVariants.{One, Two}
-use Rattle.tq_json.specs.Format.{format_of, format_number}
-use Rattle.tq_json.specs.Member.{◌>>=◌, number_at}
+use Rattle.tq_json.specs.Member.{format_of, format_number, ◌>>=◌, number_at}
 use Rattle.tq_tables.specs.Journals.{JournalsView}
-use Rattle.tq_json_read.specs.Frame.{IsInFormat, journals_in, journals_by, journals_of}
-use Rattle.tq_json_read.specs.Formats.{AreBothRead}
+use Rattle.tq_json_read.specs.Frame.{IsInFormat, journals_in, journals_by, journals_of, AreBothRead}
 
 by_tests : (a b : Bool) (number : ℕ) (format : Format) → (number == 1) ≡ a → (number == 2) ≡ b → cond a (Some One) (cond b (Some Two) None) ≡ Some format → number ≡ format_number format
 by_tests true b number One p q e = eqb-true number 1 p

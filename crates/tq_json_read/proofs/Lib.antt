@@ -1,9 +1,5 @@
-pub mod Memberships
+pub mod Places
 pub mod Held
 pub mod Formats
-pub mod Once
 mod Rows
-mod Places
-mod Limited
 mod Planned
-mod Short

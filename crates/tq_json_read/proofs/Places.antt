@@ -1,15 +1,59 @@
--- Slots of an object: what changes in them where a member is taken.
-use Rattle.std.proofs.Common.{◌≡◌, ◌-◌, ◌<◌, ◌≤◌, ℕ, zero, suc, Bool, true, false, ◌||◌, ◌+◌, cond, List, [], ◌∷◌, length, get_or, drop, Option, Some, None, refl, sym, ap, ◌∙◌, arith}
+-- A text is one value of a form at most. Members of the coterie by the test of their numbers. Slots of an object: what
+-- changes in them where a member is taken. A member of the coterie is no longer than the tree has leaves, so a longer
+-- list is none.
+use Rattle.std.proofs.Common.{◌≡◌, ℕ, List, Option, Some, None, refl, sym, ap, ◌∙◌, Bool, true, false, cond, ◌-◌, ◌<◌, ◌≤◌, zero, suc, ◌||◌, ◌+◌, [], ◌∷◌, length, get_or, drop, arith, ◌^◌, ◌==◌, nat_lt, codes}
+use Rattle.serde_json.specs.Data.{Data}
+use Rattle.tq_json_read.specs.Frame.{IsAlone}
+use Rattle.std.proofs.lemmas.Bool.{false≢true, and_parts, or_parts, not-true, false_from_ne_true, le-leb, leb-false}
+use Rattle.std.specs.Option.{SomeIff}
+use Rattle.std.specs.List.{Contains, All}
+use Rattle.std.specs.Cmp.Lexicographic.{nat_list_eq_equiv, same_text}
+use Rattle.std.proofs.lemmas.Map.Views.{list_any-from_Contains, Contains-from_any}
+use Rattle.tq_coterie.specs.Coterie.{ServerList, coterie, is_quorum, union_of, members, with_server}
+use Rattle.tq_json_read.specs.Views.{member_of}
 use Rattle.std.specs.Prelude.{◌&&◌, nat_le, IfOk, MatchOption, Result, Ok, Err}
 use Rattle.std.specs.Borrow.{Bor}
 use Rattle.std.specs.Str.{bytes_eq}
-use Rattle.std.proofs.lemmas.Bool.{and_parts, or_parts, not-true, false_from_ne_true, false≢true, le-leb}
 use Rattle.std.proofs.lemmas.List.{drop_more, drop_all}
 use Rattle.std.proofs.lemmas.Slice.Eq.{bytes_eq-Decides}
 use Rattle.json.specs.Token.{Token}
-use Rattle.serde_json.specs.Data.{Data}
 use Rattle.tq_json.specs.Next.{Found}
-use Rattle.tq_json_read.specs.Objects.{Names, with, Slots, slots_at, with_slot, texts, IsNameAt, is_among, are_distinct}
+use Rattle.tq_json_read.specs.Slots.{Names, with, Slots, slots_at, with_slot, texts, IsNameAt, is_among, are_distinct, within_cap}
+use Rattle.std.proofs.lemmas.List.Elements.{All-contains}
+use Rattle.std.proofs.lemmas.Nat.{pow_pos}
+use native.Mathlib.Nat.{two-pow-succ}
+use Rattle.std.proofs.Math.Pow.{pow_mono}
+use Rattle.tq_live.specs.declared.view.ViewReply.TheVariants.{CostSet, Marked, Chosen, Refused}
+use Rattle.tq_live.specs.declared.view.ViewRefusal.TheVariants.{NoSuchServer, BadCost, Blocked}
+use Rattle.tq_coterie.proofs.Members.{members-all}
+use Rattle.tq_json.specs.Member.{◌>>=◌}
+use Rattle.tq_json_read.specs.Views as views
+
+pub alone-once : {X : Type 0} (form : Data → Option X) (text : List ℕ) (x y : Option X) → IsAlone form text x → IsAlone form text y → x ≡ y
+alone-once form text (Some x) (Some y) p q =
+    let read : Some p.0 ≡ Some q.0 = sym p.1.1 ∙ q.1.1 in
+    let same : p.0 ≡ q.0 = cc in
+    sym p.2 ∙ ap form same ∙ q.2
+alone-once form text (Some x) None p q = sym p.2 ∙ q p.0 p.1
+alone-once form text None (Some y) p q = sym (p q.0 q.1) ∙ q.2
+alone-once form text None None p q = refl
+
+-- ---- memberships
+
+by_test : {T : Type 0} (o : Option T) (P : Type 0) (v : T) (b : Bool) → SomeIff o P v → (b ≡ true → P) → (P → b ≡ true) → o ≡ cond b (Some v) None
+by_test None P v true h good bad = absurd (h (good refl))
+by_test None P v false h good bad = refl
+by_test (Some x) P v true h good bad = ap Some h.1
+by_test (Some x) P v false h good bad = absurd (false≢true (bad h.0))
+
+pub member_from : (levels : ℕ) (numbers : List ℕ) (o : Option ServerList) → SomeIff o (Contains (coterie levels) numbers) (record { servers = numbers; levels = levels })
+    → o ≡ member_of levels numbers
+member_from levels numbers o h =
+    by_test o (Contains (coterie levels) numbers) (record { servers = numbers; levels = levels }) (is_quorum levels numbers) h
+    (λ e. Contains-from_any (λ x y same. same_text x y (sym same)) numbers (coterie levels) e)
+    (λ e. list_any-from_Contains nat_list_eq_equiv numbers (coterie levels) e)
+
+-- ---- places
 
 -- the same value by another word for it
 pub found_as : {X D F : Type 0} (r : Result X F) (P Q : D → X → Type 0) (first : Option (D × List Token)) (rest : List Token) → ((d : D) (x : X) → P d x → Q d x) → IfOk r (Found P first rest) → IfOk r (Found Q first rest)
@@ -113,3 +157,73 @@ pub still_none : (name : List ℕ) (names : List (Bor (List ℕ))) (slot first :
 still_none name names slot first other b r within is e behind =
     from_none (IsNameAt name (texts names)) r (λ none start.
     sym (passed name names slot other _ within refl (not_wanted first slot _ b is e start)) ∙ none (omega (arith, start))) behind
+
+-- ---- short
+
+length-placed : (server first : ℕ) (rest more : List ℕ) (b : Bool) → length more ≡ suc (length rest) → length (cond b (server ∷ first ∷ rest) (first ∷ more)) ≡ suc (suc (length rest))
+length-placed server first rest more true e = refl
+length-placed server first rest more false e = ap suc e
+
+length-with_server : (server : ℕ) (xs : List ℕ) → length (with_server server xs) ≡ suc (length xs)
+length-with_server server [] = refl
+length-with_server server (first ∷ rest) = length-placed server first rest (with_server server rest) (nat_lt server first) (length-with_server server rest)
+
+length-joined : (xs ys : List ℕ) → length (union_of xs ys) ≡ length xs + length ys
+length-joined [] ys = omega arith
+length-joined (x ∷ xs) ys = let one = length-with_server x (union_of xs ys) in omega (arith, one, length-joined xs ys)
+
+-- no more servers than the leaves of the subtree
+abbrev IsShort : ℕ → ℕ → List ℕ → Type 0
+IsShort height top servers = length servers ≤ 2 ^ height
+
+more_on_top : (height top : ℕ) (xs : List ℕ) → length xs ≤ 2 ^ height → length (top ∷ xs) ≤ 2 ^ suc height
+more_on_top height top xs h = omega (arith, h, two-pow-succ height, pow_pos height)
+
+from_both : (height : ℕ) (xs ys : List ℕ) → length xs ≤ 2 ^ height → length ys ≤ 2 ^ height → length (union_of xs ys) ≤ 2 ^ suc height
+from_both height xs ys h k = omega (arith, h, k, two-pow-succ height, length-joined xs ys)
+
+one_leaf : (top : ℕ) → IsShort zero top (top ∷ [])
+one_leaf top = omega arith
+
+members-short : (height top : ℕ) → All (IsShort height top) (members height top)
+members-short = members-all IsShort one_leaf (λ height top q h. more_on_top height top q h) (λ height top p h. more_on_top height top p h) (λ height top q p h k. from_both height q p h k)
+
+no_quorum : (levels : ℕ) (numbers : List ℕ) → nat_le (length numbers) (2 ^ levels) ≡ false → is_quorum levels numbers ≡ false
+no_quorum levels numbers long =
+    false_from_ne_true (is_quorum levels numbers) (λ e.
+    let at : Contains (coterie levels) numbers = Contains-from_any (λ x y same. same_text x y (sym same)) numbers (coterie levels) e in
+    let short : length numbers ≤ 2 ^ (levels - 1) = All-contains (IsShort (levels - 1) 1) (coterie levels) numbers (members-short (levels - 1) 1) at in
+    let fewer : 2 ^ (levels - 1) ≤ 2 ^ levels = pow_mono (omega arith) in
+    let more : 2 ^ levels < length numbers = leb-false (length numbers) (2 ^ levels) long in
+    omega (arith, short, fewer, more))
+
+module _ {B : Type 0} (levels : ℕ) (f : ServerList → Option B) where
+  by_length : (numbers : List ℕ) (b : Bool) → nat_le (length numbers) (2 ^ levels) ≡ b
+      → (views.kept (cond b (Some numbers) None) >>= λ s. views.member_of levels s.numbers >>= f) ≡ (views.member_of levels numbers >>= f)
+  by_length numbers true e = refl
+  by_length numbers false e = ap (λ b. cond b (Some (record { servers = numbers; levels = levels })) None >>= f) (sym (no_quorum levels numbers e))
+
+  -- a list that is too long is left out, and is none of the members
+  by_list : (o : Option (List ℕ)) → (views.kept (within_cap (Some (2 ^ levels)) o) >>= λ s. views.member_of levels s.numbers >>= f) ≡ (views.kept o >>= λ s. views.member_of levels s.numbers >>= f)
+  by_list None = refl
+  by_list (Some numbers) = by_length numbers (nat_le (length numbers) (2 ^ levels)) refl
+
+module _ (levels : ℕ) (o : Option (List ℕ)) where
+  chosen_by : (cost : Option ℕ) → views.chosen_reply levels cost (views.kept (within_cap (Some (2 ^ levels)) o)) ≡ views.chosen_reply levels cost (views.kept o)
+  chosen_by None = refl
+  chosen_by (Some cost) = by_list levels (λ quorum. Some (Chosen quorum cost)) o
+
+  refused_by : (code : Option ℕ) → views.view_refused levels code (views.kept (within_cap (Some (2 ^ levels)) o)) ≡ views.view_refused levels code (views.kept o)
+  refused_by None = refl
+  refused_by (Some code) =
+      ap (λ o. cond (code == 31) (Some (Refused NoSuchServer)) (cond (code == 32) (Some (Refused BadCost)) (cond (code == 33) o None)))
+      (by_list levels (λ blocker. Some (Refused (Blocked blocker))) o)
+
+  -- the reply is the same without lists that are too long
+  pub reply_read : (kind : Option (List ℕ)) (code cost : Option ℕ) → views.view_reply_by levels kind code cost (views.kept (within_cap (Some (2 ^ levels)) o)) ≡ views.view_reply_by levels kind code cost (views.kept o)
+  reply_read None code cost = refl
+  reply_read (Some kind) code cost = λ i.
+      cond (bytes_eq kind (codes "costset")) (Some CostSet)
+      (cond (bytes_eq kind (codes "marked")) (Some Marked)
+      (cond (bytes_eq kind (codes "chosen")) (chosen_by cost i)
+      (cond (bytes_eq kind (codes "refused")) (refused_by code i) None)))

@@ -11,14 +11,11 @@ use Rattle.tq_node.specs.NodeJournal.{NodeEntry}
 use Rattle.tq_desk.specs.DeskJournal.{DeskEntry}
 use Rattle.tq_tables.specs.Journals.{JournalsView, ViewEntry, AreJournals}
 use Rattle.tq_json.specs.declared.format.Format.{Format}
-use Rattle.tq_json.specs.Format.{format_of}
-use Rattle.tq_json.specs.Member.{◌>>=◌, number_at}
-use Rattle.tq_json_read.specs.declared.plan.Plan.{Plan}
+use Rattle.tq_json.specs.Member.{format_of, ◌>>=◌, number_at}
+use Rattle.tq_json_read.specs.declared.entry.Plan.{Plan}
 use Rattle.tq_json_read.specs.declared.file.FileFields.{FileFields}
-use Rattle.tq_json_read.specs.Frame.{levels_at, limits_at, servers_at, desk_at, view_at, journals_in, journals_by, journals_of}
-use Rattle.tq_json_read.specs.Objects.{names_of}
-use Rattle.tq_json_read.specs.Plans.{plan_of}
-use Rattle.tq_json_read.specs.Slots.{file_fields, journals_from, IsPlanned}
+use Rattle.tq_json_read.specs.Frame.{levels_at, limits_at, servers_at, desk_at, view_at, journals_in, journals_by, journals_of, plan_of}
+use Rattle.tq_json_read.specs.Slots.{names_of, file_fields, journals_from, IsPlanned}
 use Rattle.tq_json_read.proofs.Held.{read-are-journals}
 
 bound : {A B : Type 0} (o : Option A) (f : A → Option B) (b : B) → (o >>= f) ≡ Some b → (a : A) × (o ≡ Some a) × (f a ≡ Some b)

@@ -12,8 +12,8 @@ use Rattle.std.specs.Str.{bytes_eq}
 use Rattle.std.proofs.lemmas.Slice.Eq.{bytes_eq-Decides}
 use Rattle.tq_json.specs.Next.{HasNoNames}
 use Rattle.tq_json.specs.Member.{◌>>=◌, each}
-use Rattle.tq_json.proofs.Listed.{with_front, no_front}
-use Rattle.tq_json_read.specs.Objects.{names_of, with, within_cap}
+use Rattle.tq_json.proofs.Loops.{with_front, no_front}
+use Rattle.tq_json_read.specs.Slots.{names_of, with, within_cap}
 
 -- ---- items
 

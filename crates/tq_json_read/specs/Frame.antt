@@ -1,15 +1,87 @@
--- A file: its format, the levels of the tree, the limits, and the journals of all parts.
-use Rattle.std.specs.Prelude.{◌≡◌, ℕ, ◌+◌, ◌^◌, ◌==◌, ◌&&◌, List, Option, Some, None, cond, codes, nat_le}
-use Rattle.serde_json.specs.Data.{Data, Items}
-use Rattle.serde_json.specs.Find.{get}
-use Rattle.tq_shape.specs.Limits.{LimitsView}
+-- What a reader answers to a text. A text that is one ask, one reply or one entry. Entries, and the journal of one
+-- part. A file: its format, the levels of the tree, the limits, and the journals of all parts. What the entries of a
+-- file are read by. The form of journal files is that of either format, and no value is of both.
+use Rattle.std.specs.Prelude.{◌≡◌, ℕ, List, Option, Some, None, Result, Ok, Err, IsUtf8, ⊤, suc, nat_lt, cond, codes, ◌+◌, ◌^◌, ◌==◌, ◌&&◌, nat_le, ◌↔◌, ◌⊎◌}
+use Rattle.serde_json.specs.Data.{Data, Items, no_items, item}
+use Rattle.serde_json.specs.Read.{read}
+use Rattle.tq_json_read.specs.declared.fault.ReadFault.{ReadFault}
+use Rattle.tq_json_read.specs.declared.fault.ReadFault.TheVariants.{Memory, NotJson, NotJournals}
+use Rattle.serde_json.specs.Find.{get, as_array}
+use Rattle.tq_shape.specs.declared.part.Entry.{Entry}
 use Rattle.tq_node.specs.NodeJournal.{NodeEntry}
 use Rattle.tq_desk.specs.DeskJournal.{DeskEntry}
-use Rattle.tq_tables.specs.Journals.{JournalsView, ViewEntry}
+use Rattle.tq_tables.specs.Journals.{ViewEntry, JournalsView}
 use Rattle.tq_json.specs.declared.format.Format.{Format}
-use Rattle.tq_json.specs.Format.{format_of, format_number, most_levels}
-use Rattle.tq_json.specs.Member.{◌>>=◌, number_at, items_at, each}
-use Rattle.tq_json_read.specs.Entries.{journal, count, node_entry, desk_entry, view_entry}
+use Rattle.tq_json_read.specs.Nodes.{node_ask, node_reply}
+use Rattle.tq_json_read.specs.Desks.{desk_ask, desk_reply}
+use Rattle.tq_json_read.specs.Views.{view_ask, view_reply}
+use Rattle.tq_json.specs.Member.{◌>>=◌, each, number_at, items_at, format_of, format_number, most_levels}
+use Rattle.tq_shape.specs.Limits.{LimitsView}
+use Rattle.tq_json.specs.declared.format.Format.TheVariants.{Two, One}
+use Rattle.tq_json_read.specs.declared.entry.Plan.{Plan}
+
+-- the bytes are a text, and the value is what is read of it
+abbrev pub IsJson : List ℕ → Data → Type 0
+IsJson text value = IsUtf8 text × (read text ≡ Some value)
+
+-- the value of the form exactly where there is one, and each fault exactly where it holds, want of memory aside
+abbrev pub Answers : {X : Type 0} → Result X ReadFault → List ℕ → (Data → Option X) → Type 0
+Answers (Ok x) text form = (value : Data) × IsJson text value × (form value ≡ Some x)
+Answers (Err Memory) text form = ⊤
+Answers (Err NotJson) text form = (value : Data) → (IsJson text value → ⊥)
+Answers (Err NotJournals) text form = (value : Data) × IsJson text value × (form value ≡ None)
+
+-- ---- alone
+
+-- the text is JSON, and this is what its value is in a form; or none: the text is no JSON, or its value is not of the form
+abbrev pub IsAlone : {X : Type 0} → (Data → Option X) → List ℕ → Option X → Type 0
+IsAlone form text (Some x) = (value : Data) × IsJson text value × (form value ≡ Some x)
+IsAlone form text None = (value : Data) → IsJson text value → form value ≡ None
+
+-- ---- frame
+
+abbrev pub entry_from : {A R : Type 0} → Option A → Option R → Option (Entry A R)
+entry_from ask reply = do
+  ask ← ask
+  reply ← reply
+  Some (record { ask = ask; reply = reply })
+
+-- an ask of one form with a reply of another
+abbrev pub entry : {A R : Type 0} → (Data → Option A) → (Data → Option R) → Data → Option (Entry A R)
+entry ask_form reply_form value = entry_from (get (codes "ask") value >>= ask_form) (get (codes "reply") value >>= reply_form)
+
+abbrev pub node_entry : Format → Data → Option NodeEntry
+node_entry format = entry (node_ask format) (node_reply format)
+
+abbrev pub desk_entry : Format → Data → Option DeskEntry
+desk_entry format = entry (desk_ask format) desk_reply
+
+-- in a tree of so many levels
+abbrev pub view_entry : Format → ℕ → Data → Option ViewEntry
+view_entry format levels = entry (view_ask format) (view_reply levels)
+
+-- how many values there are
+abbrev pub count : Items → ℕ
+count no_items = 0
+count (item value rest) = suc (count rest)
+
+-- no more values than the limit
+abbrev pub few : ℕ → Items → Option Items
+few limit values = cond (nat_lt limit (count values)) None (Some values)
+
+-- a list of no more values than the limit
+abbrev pub within : ℕ → Data → Option Items
+within limit value = do
+  values ← as_array value
+  few limit values
+
+-- the entries, the oldest first, no more than the limit
+abbrev pub journal : {A : Type 0} → (Data → Option A) → ℕ → Data → Option (List A)
+journal form limit value = do
+  values ← within limit value
+  each form values
+
+-- ---- frame
 
 -- a number from 1 up to the most
 abbrev pub up_to : ℕ → Option ℕ → Option ℕ
@@ -84,3 +156,28 @@ abbrev pub journals_of : Data → Option JournalsView
 journals_of value = do
   number ← number_at (codes "format") value
   journals_by number value
+
+-- ---- plans
+
+abbrev pub plan_from : Option ℕ → Option ℕ → Option LimitsView → Option Plan
+plan_from format levels limits = do
+  number ← format
+  format ← format_of number
+  levels ← up_to (most_levels format) levels
+  limits ← limits
+  Some (record { format = format; levels = levels; limit = limits.entries })
+
+-- the plan that a file gives: its format, the levels of its tree and the most entries of a journal
+abbrev pub plan_of : Data → Option Plan
+plan_of value = plan_from (number_at (codes "format") value) (number_at (codes "levels") value) (limits_at value)
+
+-- what an ask, a reply or an entry that stands alone is read by: format 2, in a tree of so many levels
+abbrev pub plan_alone : ℕ → Plan
+plan_alone levels = record { format = Two; levels = levels; limit = 1000000 }
+
+-- ---- formats
+
+-- a value of either form is read, as the journals of that form; it is of one form at most, and is one list of journals
+pub record AreBothRead : Type 0 where
+  pub read : (value : Data) (journals : JournalsView) → (journals_of value ≡ Some journals) ↔ (IsInFormat One value journals ⊎ IsInFormat Two value journals)
+  pub once : (value : Data) (f g : Format) (j k : JournalsView) → IsInFormat f value j → IsInFormat g value k → (f ≡ g) × (j ≡ k)

@@ -1,14 +1,6 @@
 pub mod Locking
-pub mod NodeAsks
-pub mod NodeReplies
-pub mod Commits
+pub mod Nodes
 pub mod Desks
 pub mod Views
-pub mod Entries
 pub mod Frame
-pub mod Plans
-pub mod Objects
 pub mod Slots
-pub mod Faults
-pub mod Formats
-pub mod Alone

@@ -11,8 +11,7 @@ use Rattle.tq_asks.specs.declared.ask.HeldLock.{HeldLock}
 use Rattle.tq_asks.specs.declared.ask.Verdict.{Verdict}
 use Rattle.tq_asks.specs.declared.ask.Verdict.TheVariants.{Abort, Commit}
 use Rattle.tq_json.specs.declared.format.Format.{Format}
-use Rattle.tq_json.specs.Content.{file_at, content_at}
-use Rattle.tq_json.specs.Member.{◌>>=◌, text_at, number_at, items_at, each}
+use Rattle.tq_json.specs.Member.{file_at, content_at, ◌>>=◌, text_at, number_at, items_at, each}
 
 abbrev pub mode_of : List ℕ → Option Mode
 mode_of text =

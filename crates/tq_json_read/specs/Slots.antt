@@ -1,25 +1,101 @@
--- Words of the reader's own: what it makes of the values that it found at the names of an object.
-use Rattle.std.specs.Prelude.{◌≡◌, ◌≢◌, ⊤, Result, Ok, Err, ℕ, ◌^◌, ◌==◌, cond, codes, List, length, Option, Some, None, option_map}
+-- Words of the reader's own: the members of an object by their names, and the slots that it keeps them in. Words of
+-- the reader's own: what it makes of the values that it found at the names of an object.
+use Rattle.std.specs.Prelude.{◌≡◌, ◌<◌, get_or, ℕ, zero, suc, Bool, true, false, not, ◌&&◌, ◌||◌, nat_le, cond, List, [], ◌∷◌, length, map, Option, Some, None, ◌≢◌, ⊤, Result, Ok, Err, ◌^◌, ◌==◌, codes, option_map}
+use Rattle.std.specs.Borrow.{Bor}
 use Rattle.std.specs.Option.{option_and_then}
+use Rattle.std.specs.Str.{bytes_eq}
 use Rattle.serde_json.specs.Data.{Data}
-use Rattle.serde_json.specs.Find.{as_array}
+use Rattle.serde_json.specs.Find.{get, as_str, as_array}
+use Rattle.tq_json.specs.Member.{◌>>=◌, each, number_of}
 use Rattle.serde_json.specs.Read.{read}
 use Rattle.tq_node.specs.NodeJournal.{NodeEntry}
 use Rattle.tq_tables.specs.Journals.{JournalsView}
 use Rattle.tq_json.specs.declared.fault.NotRead.{NotRead}
-use Rattle.tq_json.specs.Member.{◌>>=◌, number_of, each}
-use Rattle.tq_json_read.specs.Entries.{journal, node_entry, desk_entry, view_entry}
-use Rattle.tq_json_read.specs.Frame.{limits, one_each, journals_of}
+use Rattle.tq_json_read.specs.Frame.{journal, node_entry, desk_entry, view_entry, limits, one_each, journals_of, plan_of}
 use Rattle.tq_json_read.specs.Views as views
-use Rattle.tq_json_read.specs.Objects.{Names, names_of, all_of, within_cap}
-use Rattle.tq_json_read.specs.Plans.{plan_of}
 use Rattle.tq_json_read.specs.declared.fault.ReadFault.{ReadFault}
 use Rattle.tq_json_read.specs.declared.read.Reading.{Reading}
 use Rattle.tq_json_read.specs.declared.read.Reading.TheVariants.{Journals, NoJournals, OtherPlan}
-use Rattle.tq_json_read.specs.declared.plan.Plan.{Plan}
+use Rattle.tq_json_read.specs.declared.entry.Plan.{Plan}
 use Rattle.tq_json_read.specs.declared.file.FileFields.{FileFields}
 use Rattle.tq_json_read.specs.declared.file.ServerJournals.{ServerJournals}
 use Rattle.tq_json_read.specs.declared.view_reply.Servers.{Servers}
+
+-- what an object has at each name
+abbrev pub Names : Type 0
+Names = List ℕ → Option Data
+
+abbrev pub names_of : Data → Names
+names_of value name = get name value
+
+-- the same with one value more, which hides an earlier one of its name
+abbrev pub with : List ℕ → Data → Names → Names
+with key value names name = cond (bytes_eq key name) (Some value) (names name)
+
+-- what stands in each slot of an object
+abbrev pub Slots : Type 0
+Slots = ℕ → Option Data
+
+-- a slot for each of these names
+abbrev pub slots_at : List (List ℕ) → Names → Slots
+slots_at [] names i = None
+slots_at (key ∷ keys) names zero = names key
+slots_at (key ∷ keys) names (suc i) = slots_at keys names i
+
+-- the same slots, with a value in one of them
+abbrev pub with_slot : ℕ → Data → Slots → Slots
+with_slot zero value slots zero = Some value
+with_slot zero value slots (suc i) = slots (suc i)
+with_slot (suc place) value slots zero = slots zero
+with_slot (suc place) value slots (suc i) = with_slot place value (λ j. slots (suc j)) i
+
+-- the texts that these are
+abbrev pub texts : List (Bor (List ℕ)) → List (List ℕ)
+texts names = map (λ name. name.now) names
+
+-- a slot for each of these texts
+abbrev pub slots_for : List (Bor (List ℕ)) → Names → Slots
+slots_for names found = slots_at (texts names) found
+
+-- the name at that place is this one
+abbrev pub IsNameAt : List ℕ → List (List ℕ) → ℕ → Type 0
+IsNameAt name keys place = (place < length keys) × (get_or keys place [] ≡ name)
+
+-- whether the name is one of these
+abbrev pub is_among : List ℕ → List (List ℕ) → Bool
+is_among name [] = false
+is_among name (key ∷ keys) = bytes_eq name key || is_among name keys
+
+-- no name stands twice
+abbrev pub are_distinct : List (List ℕ) → Bool
+are_distinct [] = true
+are_distinct (key ∷ keys) = not (is_among key keys) && are_distinct keys
+
+-- what a form makes of what stands in a place
+abbrev pub made_by : {A : Type 0} → (Data → Option A) → Option Data → Option A
+made_by form place = place >>= form
+
+-- what it makes of the text that stands there
+abbrev pub in_text : {A : Type 0} → (List ℕ → Option A) → Option Data → Option A
+in_text form place = option_and_then as_str place >>= form
+
+-- what it makes of the values of the list that stands there
+abbrev pub all_of : {A : Type 0} → (Data → Option A) → Option Data → Option (List A)
+all_of form place = option_and_then as_array place >>= each form
+
+-- no list of more values than that, where there is a limit
+abbrev pub within_cap : {A : Type 0} → Option ℕ → Option (List A) → Option (List A)
+within_cap most None = None
+within_cap None (Some xs) = Some xs
+within_cap (Some most) (Some xs) = cond (nat_le (length xs) most) (Some xs) None
+
+-- the list that a value is, of values of one form
+abbrev pub list_of : {A : Type 0} → (Data → Option A) → Option ℕ → Data → Option (List A)
+list_of form most value = do
+  values ← as_array value
+  within_cap most (each form values)
+
+-- ---- slots
 
 -- ---- entries and files
 

@@ -3,7 +3,7 @@ use Rattle.std.specs.Prelude.{ℕ, ◌==◌, Bool, List, Option, Some, None, opt
 use Rattle.std.specs.Str.{bytes_eq}
 use Rattle.serde_json.specs.Data.{Data}
 use Rattle.tq_coterie.specs.Coterie.{ServerList, is_quorum}
-use Rattle.tq_live.specs.Purposes.{purpose_of}
+use Rattle.tq_live.specs.Costs.{purpose_of}
 use Rattle.tq_live.specs.declared.purpose.Purpose.{Purpose}
 use Rattle.tq_live.specs.declared.purpose.Purpose.TheVariants.{Read}
 use Rattle.tq_live.specs.declared.view.ViewAsk.{ViewAsk}

@@ -1,11 +1,10 @@
 //! `value_from_json`.
 
 ghost use Rattle.std.specs.Prelude.{Some, IfOk};
-ghost use Rattle.tq_json_read.specs.Alone.{IsAlone};
-ghost use Rattle.tq_json_read.specs.Plans.{plan_alone};
+ghost use Rattle.tq_json_read.specs.Frame.{IsAlone, plan_alone};
 
+use crate::entry::Plan;
 use crate::parts::FromReader;
-use crate::plan::Plan;
 use crate::read::whole_text;
 use std::alloc::{AllocError, Global};
 use tq_json::{Format, NotRead, Scratch, text_of_bytes};

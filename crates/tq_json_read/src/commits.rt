@@ -1,12 +1,12 @@
 //! The parts of a commit's evidence: grants, operations, votes.
 
 ghost use Rattle.std.specs.Prelude.{◌≡◌, refl};
-ghost use Rattle.tq_json_read.specs.Objects.{made_by};
-ghost use Rattle.tq_json_read.specs.Commits as spec;
+ghost use Rattle.tq_json_read.specs.Slots.{made_by};
+ghost use Rattle.tq_json_read.specs.Desks as spec;
 
+use crate::entry::Plan;
 use crate::object::take_object;
 use crate::parts::{FromReader, Taken};
-use crate::plan::Plan;
 use std::alloc::Global;
 use tq_asks::HeldLock;
 use tq_evidence::{Grant, Op, OpKind, Shareable, Vote};

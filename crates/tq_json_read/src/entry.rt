@@ -1,14 +1,14 @@
-//! An entry of a journal: an ask and its reply.
+//! An entry of a journal, an ask and its reply, and what entries are read by.
+
 ghost use Rattle.std.specs.Prelude.{◌≡◌, Some, refl};
-ghost use Rattle.tq_json_read.specs.Objects.{made_by};
-ghost use Rattle.tq_json_read.specs.Entries.{entry, entry_from};
+ghost use Rattle.tq_json_read.specs.Slots.{made_by};
+ghost use Rattle.tq_json_read.specs.Frame.{entry, entry_from};
 
 use crate::object::take_object;
 use crate::parts::{FromReader, Taken};
-use crate::plan::Plan;
 use std::alloc::Global;
-use tq_json::Reader;
-use tq_shape::Entry;
+use tq_json::{Format, Reader};
+use tq_shape::{Entry, Levels};
 
 const ENTRY_NAMES: &[&str] = &["ask", "reply"];
 
@@ -35,4 +35,18 @@ fn entry_from<A: Drop, R: Drop>(ask: Option<A>, reply: Option<R>) -> Option<Entr
     let ask = ask?;
     let reply = reply?;
     Some(Entry { ask, reply })
+}
+
+/// How deep arrays and objects may nest.
+pub(crate) const MAX_DEPTH: usize = 127;
+
+/// What the entries of a file are read by.
+#[derive(Clone, Copy, Debug, PartialEq, Eq)]
+pub struct Plan {
+    /// The format of the file.
+    pub(crate) format: Format,
+    /// How many levels the tree has.
+    pub(crate) levels: Levels,
+    /// The most entries of a journal.
+    pub(crate) limit: u32,
 }

@@ -3,16 +3,15 @@ ghost use Rattle.std.specs.Prelude.{◌≡◌, ◌<◌, ◌≤◌, length, map, 
 ghost use Rattle.std.specs.Option.{option_map, option_and_then};
 ghost use Rattle.serde_json.specs.Find.{as_array};
 ghost use Rattle.tq_json.specs.Next.{next, Found};
-ghost use Rattle.tq_json.specs.Format.{most_levels};
-ghost use Rattle.tq_json_read.specs.Entries.{journal, node_entry};
+ghost use Rattle.tq_json.specs.Member.{most_levels};
+ghost use Rattle.tq_json_read.specs.Frame.{journal, node_entry};
 ghost use Rattle.tq_json_read.specs.Frame as frame;
-ghost use Rattle.tq_json_read.specs.Objects.{made_by, names_of};
-ghost use Rattle.tq_json_read.specs.Plans as plans;
+ghost use Rattle.tq_json_read.specs.Slots.{made_by, names_of};
 ghost use Rattle.tq_json_read.specs.Slots as slots;
 
+use crate::entry::Plan;
 use crate::object::take_object;
 use crate::parts::{FromReader, Taken, take_list};
-use crate::plan::Plan;
 use std::alloc::Global;
 use tq_json::{Format, Reader};
 use tq_shape::{Levels, Limits, MOST_ENTRIES, MOST_FILES, MOST_OPS, Memory, Seq};
@@ -158,7 +157,7 @@ pub(crate) fn plan_from(
     levels: Option<u64>,
     limits: Option<Limits>,
 ) -> Option<Plan>
-    ensures { result ≡ plans.plan_from format levels limits }
+    ensures { result ≡ frame.plan_from format levels limits }
 {
     let number = format?;
     let format = Format::of_number(number)?;
@@ -175,7 +174,7 @@ pub(crate) fn plan_from(
 impl FileFields {
     /// The plan that the file gives.
     pub(crate) fn plan(&self) -> Option<Plan>
-        ensures { result ≡ plans.plan_from self.now.format self.now.levels self.now.limits }
+        ensures { result ≡ frame.plan_from self.now.format self.now.levels self.now.limits }
     {
         plan_from(self.format, self.levels, self.limits)
     }

@@ -1,7 +1,7 @@
 //! A first look at a file, for the plan that it is read by. Whatever it says, the plan that the file gives decides.
+use crate::entry::{MAX_DEPTH, Plan};
 use crate::file::plan_from;
 use crate::object::take_object;
-use crate::plan::{MAX_DEPTH, Plan};
 use memchr::memmem;
 use std::alloc::Global;
 use tq_json::{Format, NotRead, Reader, Scratch};

@@ -4,8 +4,8 @@
 //! name asks for is passed over. What entries are read by, the plan, may stand behind them: a first look finds it, and where
 //! the file gives another in the end, it is read once more by that one.
 //!
-//! Definitions: `specs/Frame` and one for each kind of object; `Faults` what a reader answers, `Alone`. Words of the reader's own:
-//! `Plans` the plan, `Objects` the members of an object, `Slots` what is made of them.
+//! Definitions: `specs/Frame` and one for each kind of object. `Slots` are words of the reader's own: the members of an object,
+//! and what is made of them.
 #![tactic(auto)]
 
 mod alone;
@@ -21,7 +21,6 @@ mod node_ask;
 mod node_reply;
 mod object;
 mod parts;
-mod plan;
 mod read;
 mod scalars;
 mod view_ask;

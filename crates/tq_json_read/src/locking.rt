@@ -1,12 +1,12 @@
 //! The parts of a server's replies: locks, votes, refusals.
 
 ghost use Rattle.std.specs.Prelude.{◌≡◌, refl};
-ghost use Rattle.tq_json_read.specs.Objects.{made_by};
+ghost use Rattle.tq_json_read.specs.Slots.{made_by};
 ghost use Rattle.tq_json_read.specs.Locking as spec;
 
+use crate::entry::Plan;
 use crate::object::take_object;
 use crate::parts::{FromReader, Taken};
-use crate::plan::Plan;
 use crate::scalars::Word;
 use std::alloc::Global;
 use tq_asks::{CitedVote, HeldLock, Verdict};

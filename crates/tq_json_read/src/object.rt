@@ -4,19 +4,19 @@
 ghost use Rattle.std.specs.Prelude.{◌≡◌, ◌&&◌, ◌<◌, ◌≤◌, false, drop, length, nat_le, None, Err, IfOk, OnOk, IsTrue, MatchOption};
 ghost use Rattle.serde_json.specs.Find.{get_member};
 ghost use Rattle.tq_json.specs.Next.{next, next_members, Found};
-ghost use Rattle.tq_json_read.specs.Objects.{Names, names_of, with, slots_for, texts, IsNameAt, is_among, are_distinct};
+ghost use Rattle.tq_json_read.specs.Slots.{Names, names_of, with, slots_for, texts, IsNameAt, is_among, are_distinct};
 ghost use Rattle.std.specs.Str.{bytes_eq};
 
+use crate::entry::Plan;
 use crate::parts::{FromReader, Taken};
-use crate::plan::Plan;
 use std::alloc::Global;
 use tq_json::{NotRead, Reader, is_text, open_object, pass_over};
 
 /// Room for what stands at names, one slot for each name.
 pub(crate) trait Slots<'a>: Sized + Drop {
     ghost use Rattle.std.specs.Prelude.{◌≡◌, ◌<◌, ◌≤◌, false, drop, length, None, Err, IfOk, OnOk, MatchOption};
-    ghost use Rattle.tq_json_read.specs.declared.plan.Plan.{Plan};
-    ghost use Rattle.tq_json_read.specs.Objects.{Slots as Values, with_slot, texts, is_among, IsNameAt};
+    ghost use Rattle.tq_json_read.specs.declared.entry.Plan.{Plan};
+    ghost use Rattle.tq_json_read.specs.Slots.{Slots as Values, with_slot, texts, is_among, IsNameAt};
     ghost use Rattle.tq_json.specs.Next.{next, Found};
 
     /// What they are, by a plan, of the values in them.

@@ -2,9 +2,9 @@
 ghost use Rattle.std.specs.Prelude.{◌≡◌, ◌<◌, ◌≤◌, ◌↔◌, false, length, Some, None, Err, IfOk, OnOk, IsTrue, MatchOption};
 ghost use Rattle.tq_json.specs.Next.{next, next_items, Found};
 ghost use Rattle.tq_json.specs.Member.{each};
-ghost use Rattle.tq_json_read.specs.Objects.{within_cap, list_of};
+ghost use Rattle.tq_json_read.specs.Slots.{within_cap, list_of};
 
-use crate::plan::Plan;
+use crate::entry::Plan;
 use std::alloc::Global;
 use tq_json::{NotRead, Reader, open_array, pass_items};
 use tq_shape::Seq;
@@ -16,7 +16,7 @@ pub type Taken<T> = Result<Option<T>, NotRead>;
 pub trait FromReader<'a>: Sized + Drop {
     ghost use Rattle.std.specs.Prelude.{◌≡◌, ◌<◌, length, Option, Some, None, Err, IfOk, OnOk};
     ghost use Rattle.serde_json.specs.Data.{Data};
-    ghost use Rattle.tq_json_read.specs.declared.plan.Plan.{Plan};
+    ghost use Rattle.tq_json_read.specs.declared.entry.Plan.{Plan};
     ghost use Rattle.tq_json.specs.Next.{next, Found};
 
     /// What the form makes, by a plan, of what stands in one place: `None` where it is not of the form.

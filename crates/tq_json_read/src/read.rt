@@ -2,16 +2,15 @@
 
 ghost use Rattle.std.specs.Prelude.{◌≡◌, Some, None, Err, IfOk};
 ghost use Rattle.serde_json.specs.Read.{read};
-ghost use Rattle.tq_json_read.specs.Faults.{Answers};
-ghost use Rattle.tq_json_read.specs.Formats.{AreBothRead};
+ghost use Rattle.tq_json_read.specs.Frame.{Answers, AreBothRead};
 ghost use Rattle.tq_json_read.specs.Frame as spec;
 ghost use Rattle.tq_json_read.specs.Slots as slots;
 
+use crate::entry::{MAX_DEPTH, Plan};
 use crate::fault::ReadFault;
 use crate::file::{FileFields, journals_from};
 use crate::glance::first_plan;
 use crate::parts::{FromReader, Taken};
-use crate::plan::{MAX_DEPTH, Plan};
 use std::alloc::Global;
 use tq_json::{NotRead, Reader, Scratch, text_of_bytes};
 use tq_tables::Journals;

@@ -1,13 +1,13 @@
 //! Replies of the view.
 
 ghost use Rattle.std.specs.Prelude.{◌≡◌, Some, refl, IfOk};
-ghost use Rattle.tq_json_read.specs.Objects.{made_by};
+ghost use Rattle.tq_json_read.specs.Slots.{made_by};
 ghost use Rattle.tq_json_read.specs.Slots as slots;
 ghost use Rattle.tq_json_read.specs.Views as spec;
 
+use crate::entry::Plan;
 use crate::object::take_object;
 use crate::parts::{FromReader, Taken, take_list};
-use crate::plan::Plan;
 use crate::scalars::Word;
 use std::alloc::Global;
 use tq_coterie::Member;

@@ -3,7 +3,7 @@ use Rattle.std.proofs.Common.{◌≡◌, ℕ, ◌<◌, List, [], ◌∷◌, Bool
 use Rattle.std.proofs.lemmas.Bool.{cases_lt, cases_eq, lt-ltb, le-ltb, eq-eqb, ne_eqb}
 use Rattle.tq_shape.specs.ServerSet.{Ascends, with_number}
 use Rattle.tq_coterie.specs.Coterie.{union_of, with_server}
-use Rattle.tq_live.specs.Collected.{with_all}
+use Rattle.tq_live.specs.Least.{with_all}
 
 with-below : (number first : ℕ) (rest : List ℕ) → number < first → with_number number (first ∷ rest) ≡ number ∷ first ∷ rest
 with-below number first rest less = rw (lt-ltb number first less) refl

@@ -1,9 +1,10 @@
--- What a server costs for each purpose.
-use Rattle.std.specs.Prelude.{ℕ, ◌≤◌, refl}
+-- What a server costs for each purpose. The words for purposes.
+use Rattle.std.specs.Prelude.{ℕ, ◌≤◌, refl, List, Option, Some, None, cond, codes}
 use Rattle.std.specs.Coded.{Coded, code_by, coded×, coded_ℕ}
 use Rattle.tq_live.specs.declared.purpose.Purpose.{Purpose}
 use Rattle.tq_live.specs.declared.purpose.Purpose.TheVariants.{Read, Write}
 use Rattle.tq_live.specs.declared.costs.Costs.{Costs}
+use Rattle.std.specs.Str.{bytes_eq}
 
 -- the cost for that purpose
 abbrev pub cost_to : Purpose → Costs → ℕ
@@ -34,3 +35,14 @@ low costs are Write = are.1
 -- costs as one value of a code
 abbrev pub costs_code : Coded Costs
 costs_code = code_by (ℕ × ℕ) (coded× coded_ℕ coded_ℕ) (λ c. (c.read, c.write)) (λ p. record { read = p.0; write = p.1 }) (λ _. refl)
+
+-- ---- purposes
+
+-- the word for a purpose
+abbrev pub purpose_text : Purpose → List ℕ
+purpose_text Read = codes "read"
+purpose_text Write = codes "write"
+
+-- the purpose of a word
+abbrev pub purpose_of : List ℕ → Option Purpose
+purpose_of text = cond (bytes_eq text (codes "read")) (Some Read) (cond (bytes_eq text (codes "write")) (Some Write) None)

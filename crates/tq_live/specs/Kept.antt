@@ -1,22 +1,65 @@
--- What each server keeps of its subtree, and how a subtree is walked and changed.
-use Rattle.std.specs.Prelude.{ℕ, zero, suc, ◌+◌, ◌-◌, ◌*◌, ◌/◌, ◌%◌, ◌^◌, ◌≡◌, ◌<◌, ◌≤◌, ◌==◌, Bool, true, not, cond, List, [], ◌∷◌, Option, Some, None, IfSome}
-use Rattle.tq_live.specs.Weights.{plus, lesser}
-use Rattle.tq_live.specs.Costs.{cost_to, even_costs}
-use Rattle.tq_shape.specs.Tree.{IsServer, left_of, right_of}
-use Rattle.tq_live.specs.Least.{changed_set, pair}
-use Rattle.tq_live.specs.Form.{form_of, by_form}
-use Rattle.tq_live.specs.Subtree.{Subtree, Alone, Over, leaves}
-use Rattle.tq_live.specs.declared.search_for.SearchFor.{SearchFor}
-use Rattle.tq_live.specs.declared.search_for.SearchFor.TheVariants.{Quorum, Blocker}
+-- What is looked for: a quorum that is up at least cost for a purpose, or a blocker. Which of the three forms of
+-- member is taken. What each server keeps of its subtree, and how a subtree is walked and changed. What a node is seen
+-- as, and what always holds of it. What callers see of a tree of nodes.
+use Rattle.std.specs.Prelude.{ℕ, Bool, not, List, Option, sum_by, cond, zero, suc, ◌+◌, ◌-◌, ◌*◌, ◌/◌, ◌%◌, ◌^◌, ◌≡◌, ◌<◌, ◌≤◌, ◌==◌, true, [], ◌∷◌, Some, None, IfSome, map, slice_set}
+use Rattle.tq_shape.specs.Tree.{height_of, IsServer, left_of, right_of, depth_of}
+use Rattle.tq_live.specs.Least.{least_member, weight_by, is_less, plus, lesser, changed_set, pair}
+use Rattle.tq_live.specs.Live.{Live, cost_of, is_up, costs_of}
+use Rattle.tq_live.specs.declared.least.SearchFor.{SearchFor}
+use Rattle.tq_live.specs.declared.least.SearchFor.TheVariants.{Quorum, Blocker}
 use Rattle.tq_live.specs.declared.weight.Form.{Form}
-use Rattle.tq_live.specs.declared.weight.Form.TheVariants.{WithLeft}
+use Rattle.tq_live.specs.declared.weight.Form.TheVariants.{WithLeft, WithRight, BothSides}
+use Rattle.tq_live.specs.Costs.{cost_to, even_costs, AreLow}
+use Rattle.tq_live.specs.Subtree.{Subtree, Alone, Over, leaves}
 use Rattle.tq_live.specs.declared.purpose.Purpose.{Purpose}
 use Rattle.tq_live.specs.declared.purpose.Purpose.TheVariants.{Read, Write}
 use Rattle.tq_live.specs.declared.costs.Costs.{Costs}
 use Rattle.tq_live.specs.declared.tree.cache.Cache.{Cache}
 use Rattle.tq_live.specs.declared.tree.cache.Column.{Column}
-use Rattle.tq_live.specs.declared.setting.Setting.{Setting}
-use Rattle.tq_live.specs.declared.setting.Setting.TheVariants.{Cost, Mark}
+use Rattle.tq_live.specs.declared.costs.Setting.{Setting}
+use Rattle.tq_live.specs.declared.costs.Setting.TheVariants.{Cost, Mark}
+use Rattle.tq_live.specs.declared.node.Below.{Below}
+use Rattle.tq_live.specs.declared.node.Below.TheVariants as belows
+use Rattle.std.specs.List.{range_with_len}
+
+-- what a server costs
+abbrev pub cost_for : Live → SearchFor → ℕ → ℕ
+cost_for live (Quorum purpose) server = cost_of live purpose server
+cost_for live Blocker server = 0
+
+-- whether a server may be taken
+abbrev pub allowed_for : Live → SearchFor → ℕ → Bool
+allowed_for live (Quorum purpose) server = is_up live server
+allowed_for live Blocker server = not (is_up live server)
+
+-- what is looked for in the subtree of the server
+abbrev pub found_set : Live → SearchFor → ℕ → Option (List ℕ)
+found_set live sought server = least_member (cost_for live sought) (allowed_for live sought) (height_of live.levels server) server
+
+-- the weight of what is found
+abbrev pub found_weight : Live → SearchFor → ℕ → Option ℕ
+found_weight live sought server = weight_by (sum_by (cost_for live sought)) (found_set live sought server)
+
+-- ---- kept
+
+-- from whether the right side is better than the left, and both sides than the top with the better one
+abbrev pub form_taken : Bool → Bool → Form
+form_taken goes_right takes_both = cond takes_both BothSides (cond goes_right WithRight WithLeft)
+
+-- from the weight of the top and those of its sides: both sides where they are less than the top with one of them, and else
+-- the top with the lesser side
+abbrev pub form_of : Option ℕ → Option ℕ → Option ℕ → Form
+form_of top left right =
+    cond (is_less (plus left right) (lesser (plus top left) (plus top right))) BothSides
+    (cond (is_less right left) WithRight WithLeft)
+
+-- what a member of each form is, of these the one of that form
+abbrev pub by_form : Form → Option (List ℕ) → Option (List ℕ) → Option (List ℕ) → Option (List ℕ)
+by_form WithLeft with_left with_right both = with_left
+by_form WithRight with_left with_right both = with_right
+by_form BothSides with_left with_right both = both
+
+-- ---- kept
 
 -- the weight of a server, if it may be taken
 abbrev pub weight_here : SearchFor → Costs → Bool → Option ℕ
@@ -150,3 +193,62 @@ even (suc height) = Over (even_costs 1) true (even height) (even height)
 abbrev pub top_of : Subtree → Costs × Bool
 top_of (Alone costs up) = (costs, up)
 top_of (Over costs up left right) = (costs, up)
+
+-- ---- below
+
+-- the subtree of a node of these costs and this mark, over its sides if it has such
+abbrev pub subtree_of : Costs → Bool → Below → Subtree
+subtree_of costs up belows.Nothing = Alone costs up
+subtree_of costs up (belows.Over sides) = Over costs up sides.value.left sides.value.right
+
+-- the cache is that of the subtree; there are at most 512 leaves, and each cost is at most a million
+pub record IsKept (costs : Costs) (up : Bool) (below : Below) (cache : Cache) : Type 0 where
+  pub kept : cache ≡ cache_of (subtree_of costs up below)
+  pub bounded : AreLow costs
+  pub fits : IsLight (subtree_of costs up below)
+  pub small : leaves (subtree_of costs up below) ≤ 512
+
+-- ---- live of
+
+-- the costs and the mark of a server
+abbrev pub seen_at : Subtree → ℕ → Costs × Bool
+seen_at tree number = top_of (under tree (depth_of number) number)
+
+-- the costs of a server
+abbrev pub costs_at : Subtree → ℕ → Costs
+costs_at tree number = let seen = seen_at tree number in seen.0
+
+-- the mark of a server
+abbrev pub mark_at : Subtree → ℕ → Bool
+mark_at tree number = let seen = seen_at tree number in seen.1
+
+-- those of each server, upwards from server 1
+abbrev pub live_of : ℕ → Subtree → Live
+live_of levels tree = record {
+  levels = levels;
+  costs = map (costs_at tree) (range_with_len 1 (2 ^ levels - 1));
+  up = map (mark_at tree) (range_with_len 1 (2 ^ levels - 1));
+}
+
+-- all levels are there
+pub record IsWhole (levels : ℕ) (tree : Subtree) : Type 0 where
+  pub least : 1 ≤ levels
+  pub complete : IsComplete (levels - 1) tree
+
+-- the subtree is that of the server: its costs and marks are those of the servers that stand in it
+abbrev pub IsAt : Live → ℕ → Subtree → Type 0
+IsAt live top (Alone costs up) =
+    IsServer live.levels top × (height_of live.levels top ≡ 0) × (costs_of live top ≡ costs) × (is_up live top ≡ up)
+IsAt live top (Over costs up left right) =
+    IsServer live.levels top
+    × (height_of live.levels top ≡ suc (height_of live.levels (left_of top)))
+    × (height_of live.levels top ≡ suc (height_of live.levels (right_of top)))
+    × (costs_of live top ≡ costs)
+    × (is_up live top ≡ up)
+    × IsAt live (left_of top) left
+    × IsAt live (right_of top) right
+
+-- the same tree with the change at a server
+abbrev pub changed_live : Live → ℕ → Setting → Live
+changed_live live server (Cost costs) = record live { costs = slice_set live.costs (server - 1) costs }
+changed_live live server (Mark up) = record live { up = slice_set live.up (server - 1) up }

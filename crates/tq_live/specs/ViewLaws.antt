@@ -1,14 +1,52 @@
--- A view's plans may be made, and lead where its asks do; its levels stay.
-use Rattle.std.proofs.Common.{◌≡◌, ◌-◌, ℕ, Bool, true, false, List, Option, Some, None, cond, refl, set, arith}
+-- What an ask of a view is to change, and the view with a change made. A view's plans may be made, and lead where its
+-- asks do; its levels stay. A view's replies are of its tree.
+use Rattle.std.specs.Prelude.{◌≡◌, ◌-◌, ℕ, List, Option, Some, None, cond, slice_set, ⊤}
 use Rattle.tq_live.specs.Live.{Live, best}
-use Rattle.tq_live.specs.View.{is_server, are_costs, view_after}
-use Rattle.tq_live.specs.ViewChanges.{choice_change, view_change, view_changed, ViewFits}
+use Rattle.tq_live.specs.View.{is_server, are_costs, view_after, view_state, view_reply, view_reply_at, view_after_at, IsLegalView, choice_reply}
 use Rattle.tq_live.specs.Costs.{AreLow}
 use Rattle.tq_live.specs.declared.purpose.Purpose.{Purpose}
-use Rattle.tq_live.specs.declared.costs.Costs.{Costs}
 use Rattle.tq_live.specs.declared.view.ViewAsk.{ViewAsk}
 use Rattle.tq_live.specs.declared.view.ViewAsk.TheVariants.{SetCost, Mark, Choose}
-use Rattle.tq_live.specs.declared.change.ViewChange.TheVariants as changes
+use Rattle.tq_live.specs.declared.view.ViewChange.{ViewChange}
+use Rattle.tq_live.specs.declared.view.ViewChange.TheVariants as changes
+use Rattle.std.proofs.Common.{Bool, true, false, refl, set, arith, ◌+◌, ◌∙◌, [], ◌∷◌, sym, subst}
+use Rattle.tq_live.specs.declared.costs.Costs.{Costs}
+use Rattle.std.specs.List.{All}
+use Rattle.std.proofs.lemmas.List.Elements.{All-nil, All-cons}
+use Rattle.tq_shape.specs.declared.part.Entry.{Entry}
+use Rattle.tq_shape.specs.Journal.{IsLegalFrom}
+use Rattle.tq_live.specs.declared.view.ViewReply.{ViewReply}
+use Rattle.tq_live.specs.declared.view.ViewReply.TheVariants.{CostSet, Marked, Chosen, Refused}
+use Rattle.tq_live.specs.declared.view.ViewRefusal.TheVariants.{NoSuchServer, BadCost, Blocked}
+
+-- a quorum that is chosen is kept for its purpose
+abbrev pub choice_change : Live → Purpose → Option (List ℕ) → ViewChange
+choice_change live purpose (Some servers) = changes.Keep purpose (record { servers = servers; levels = live.levels })
+choice_change live purpose None = changes.Nothing
+
+-- what an ask is to change
+abbrev pub view_change : Live → ViewAsk → ViewChange
+view_change live (SetCost server read write) =
+    cond (is_server live.levels server) (cond (are_costs read write) (changes.Cost (record { number = server; levels = live.levels }) (record { read = read; write = write })) changes.Nothing) changes.Nothing
+view_change live (Mark server up) =
+    cond (is_server live.levels server) (changes.Mark (record { number = server; levels = live.levels }) up) changes.Nothing
+view_change live (Choose purpose) = choice_change live purpose (best live purpose 1)
+
+-- the server is one of the tree, and may have the costs
+abbrev pub ViewFits : Live → ViewChange → Type 0
+ViewFits live changes.Nothing = Unit {0}
+ViewFits live (changes.Cost server costs) = (server.levels ≡ live.levels) × AreLow costs
+ViewFits live (changes.Mark server up) = server.levels ≡ live.levels
+ViewFits live (changes.Keep purpose quorum) = Unit {0}
+
+-- the view with a change made
+abbrev pub view_changed : Live → ViewChange → Live
+view_changed live changes.Nothing = live
+view_changed live (changes.Cost server costs) = record live { costs = slice_set live.costs (server.number - 1) costs }
+view_changed live (changes.Mark server up) = record live { up = slice_set live.up (server.number - 1) up }
+view_changed live (changes.Keep purpose quorum) = live
+
+-- ---- view laws
 
 cost_fits : (live : Live) (server : ℕ) (costs : Costs) (there good : Bool) → (good ≡ true → AreLow costs)
     → ViewFits live (cond there (cond good (changes.Cost (record { number = server; levels = live.levels }) costs) changes.Nothing) changes.Nothing)
@@ -70,3 +108,42 @@ keeps_levels live (SetCost server read write) =
     cost_keeps live (record live { costs = set live.costs (server - 1) costs }) (is_server live.levels server) (are_costs read write) refl
 keeps_levels live (Mark server up) = cost_keeps live (record live { up = set live.up (server - 1) up }) (is_server live.levels server) true refl
 keeps_levels live (Choose purpose) = refl
+
+-- ---- view tree
+
+-- the reply names no quorum and no blocker of a tree of other levels
+abbrev pub IsOfTree : ℕ → ViewReply → Type 0
+IsOfTree levels (Chosen quorum cost) = quorum.levels ≡ levels
+IsOfTree levels (Refused (Blocked blocker)) = blocker.levels ≡ levels
+IsOfTree levels other = ⊤
+
+cost_of_tree : (levels : ℕ) (there good : Bool) → IsOfTree levels (cond there (cond good CostSet (Refused BadCost)) (Refused NoSuchServer))
+cost_of_tree levels true true = tt
+cost_of_tree levels true false = tt
+cost_of_tree levels false good = tt
+
+mark_of_tree : (levels : ℕ) (there : Bool) → IsOfTree levels (cond there Marked (Refused NoSuchServer))
+mark_of_tree levels true = tt
+mark_of_tree levels false = tt
+
+choice_of_tree : (live : Live) (purpose : Purpose) (least : Option (List ℕ)) → IsOfTree live.levels (choice_reply live purpose least)
+choice_of_tree live purpose None = refl
+choice_of_tree live purpose (Some servers) = refl
+
+-- what a view replies is of its tree
+pub reply_of_tree : (live : Live) (ask : ViewAsk) → IsOfTree live.levels (view_reply live ask)
+reply_of_tree live (SetCost server read write) = cost_of_tree live.levels (is_server live.levels server) (are_costs read write)
+reply_of_tree live (Mark server up) = mark_of_tree live.levels (is_server live.levels server)
+reply_of_tree live (Choose purpose) = choice_of_tree live purpose (best live purpose 1)
+
+from_tree : (levels : ℕ) (live : Live) (n : ℕ) (entries : List (Entry ViewAsk ViewReply)) → live.levels ≡ levels → IsLegalFrom view_reply_at view_after_at live n entries
+    → All (λ (entry : Entry ViewAsk ViewReply). IsOfTree levels entry.reply) entries
+from_tree levels live n [] same legal = All-nil (λ (entry : Entry ViewAsk ViewReply). IsOfTree levels entry.reply)
+from_tree levels live n (e ∷ entries) same legal =
+    All-cons (λ (entry : Entry ViewAsk ViewReply). IsOfTree levels entry.reply) e entries
+    (subst (λ (l : ℕ). IsOfTree l e.reply) same (subst (IsOfTree live.levels) (sym legal.0) (reply_of_tree live e.ask)))
+    (from_tree levels (view_after_at live n e.ask) (n + 1) entries (keeps_levels live e.ask ∙ same) legal.1)
+
+-- and so is each reply of a legal journal
+pub replies_of_tree : (levels : ℕ) (journal : List (Entry ViewAsk ViewReply)) → IsLegalView levels journal → All (λ (entry : Entry ViewAsk ViewReply). IsOfTree levels entry.reply) journal
+replies_of_tree levels journal legal = from_tree levels (view_state levels []) 1 journal refl legal

@@ -1,17 +1,14 @@
 //! The view as a part that answers asks.
 
-use crate::change::ViewChange;
-use crate::view::{View, ViewAsk, ViewReply};
+use crate::view::{View, ViewAsk, ViewChange, ViewReply};
 use std::alloc::Global;
-use tq_part::{Answers, Plan};
-use tq_shape::{ExactClone, Memory};
+use tq_shape::{Answers, ExactClone, Memory, Plan};
 
 impl Answers for View {
     ghost use Rattle.std.specs.Prelude.{[]};
     ghost use Rattle.std.proofs.Common.{ap};
     ghost use Rattle.tq_live.specs.View.{view_reply, view_after, view_state};
-    ghost use Rattle.tq_live.specs.ViewChanges.{view_change, view_changed, ViewFits};
-    ghost use Rattle.tq_live.specs.ViewLaws.{change_fits, change_leads, keeps_levels};
+    ghost use Rattle.tq_live.specs.ViewLaws.{view_change, view_changed, ViewFits, change_fits, change_leads, keeps_levels};
 
     type Ask = ViewAsk;
 

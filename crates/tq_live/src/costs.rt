@@ -1,4 +1,4 @@
-//! The two costs of a server.
+//! The two costs of a server, and what is set anew at one.
 
 ghost use Rattle.std.specs.Prelude.{◌≡◌};
 ghost use Rattle.tq_live.specs.View as spec;
@@ -42,4 +42,11 @@ pub(crate) fn are_costs(read: u64, write: u64) -> bool
     ensures { result ≡ spec.are_costs read write }
 {
     is_cost(read) && is_cost(write)
+}
+
+/// What is set anew at a server.
+#[derive(Clone, Copy, Debug, PartialEq, Eq)]
+pub(crate) enum Setting {
+    Cost(Costs),
+    Mark(bool),
 }

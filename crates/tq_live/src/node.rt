@@ -4,18 +4,15 @@ ghost use Rattle.std.specs.Prelude.{◌≡◌, ℕ, ◌+◌, ◌*◌, ◌^◌, �
 ghost use Rattle.tq_shape.specs.Tree.{IsServer};
 ghost use Rattle.tq_shape.specs.ServerSet.{set_with};
 ghost use Rattle.tq_live.specs.Subtree.{Subtree, Alone, Over, leaves};
-ghost use Rattle.tq_live.specs.Kept.{weight_of, form_in, cache_of, column_over, goes_left_at, under, costs_after, changed_under, caches_on_way, found_in, StandsAt, even, top_of};
-ghost use Rattle.tq_live.specs.Form.{form_of};
-ghost use Rattle.tq_live.specs.Below.{subtree_of};
-ghost use Rattle.tq_live.specs.Collected.{HasGathered};
+ghost use Rattle.tq_live.specs.Kept.{weight_of, form_in, cache_of, column_over, goes_left_at, under, costs_after, changed_under, caches_on_way, found_in, StandsAt, even, top_of, form_of, subtree_of};
+ghost use Rattle.tq_live.specs.Least.{HasGathered};
 ghost use Rattle.tq_live.specs.Costs.{AreLow, no_costs};
 ghost use Rattle.tq_live.specs.declared.purpose.Purpose.{Purpose};
-ghost use Rattle.tq_live.specs.declared.search_for.SearchFor.TheVariants as soughts;
+ghost use Rattle.tq_live.specs.declared.least.SearchFor.TheVariants as soughts;
 
-use crate::costs::Costs;
+use crate::costs::{Costs, Setting};
+use crate::least::SearchFor;
 use crate::purpose::Purpose;
-use crate::search_for::SearchFor;
-use crate::setting::Setting;
 use crate::tree::cache::{Cache, Count, repair};
 use crate::weight::{Form, Weight};
 use std::alloc::Global;
@@ -54,7 +51,7 @@ impl Model for Node {
 
     ghost coded = { subtree_code };
 
-    ghost use Rattle.tq_live.specs.Below.{subtree_of, IsKept};
+    ghost use Rattle.tq_live.specs.Kept.{subtree_of, IsKept};
 
     ghost view = { λ node. subtree_of node.costs node.up node.below };
 

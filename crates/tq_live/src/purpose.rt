@@ -2,7 +2,7 @@
 
 ghost use Rattle.std.specs.Prelude.{◌≡◌};
 ghost use Rattle.std.specs.Str.{bytes_eq};
-ghost use Rattle.tq_live.specs.Purposes as spec;
+ghost use Rattle.tq_live.specs.Costs as spec;
 
 use tq_shape::ExactClone;
 

@@ -2,20 +2,17 @@
 
 ghost use Rattle.std.specs.Prelude.{◌≡◌, ℕ, ◌+◌, ◌-◌, ◌*◌, ◌^◌, ◌<◌, ◌≤◌, ◌↔◌, IsOk, IfOk, IfSome, IsSome, OnOk, OnErr, slice_set, true, is_some, replicate, Some, [], List, All, Contains};
 ghost use Rattle.std.specs.Bool.{OnTrue, OnFalse};
-ghost use Rattle.tq_shape.specs.Depth.{depth_of};
+ghost use Rattle.tq_shape.specs.Tree.{depth_of};
 ghost use Rattle.tq_coterie.specs.Coterie.{coterie, is_same};
-ghost use Rattle.tq_live.specs.Collected.{list_of_set};
+ghost use Rattle.tq_live.specs.Least.{list_of_set};
 
 pub(crate) mod cache;
 
 use crate::choice::Choice;
-use crate::costs::{BadCost, Costs, is_cost};
-use crate::least::Least;
-use crate::listed::list_servers;
+use crate::costs::{BadCost, Costs, Setting, is_cost};
+use crate::least::{Least, SearchFor, list_servers};
 use crate::node::Node;
 use crate::purpose::Purpose;
-use crate::search_for::SearchFor;
-use crate::setting::Setting;
 pub use cache::Turns;
 use std::alloc::Global;
 use std::marker::Model;
@@ -40,7 +37,7 @@ impl Model for LiveTree {
 
     ghost Value = { Live };
 
-    ghost use Rattle.tq_live.specs.LiveOf.{live_of, IsWhole};
+    ghost use Rattle.tq_live.specs.Kept.{live_of, IsWhole};
 
     ghost view = { λ tree. live_of tree.levels tree.root };
 
@@ -50,17 +47,12 @@ impl Model for LiveTree {
 impl LiveTree {
     ghost use Rattle.std.specs.Prelude.{◌≡◌, ℕ, ◌+◌, ◌-◌, ◌*◌, ◌^◌, ◌<◌, ◌≤◌, ◌↔◌, IsOk, IfOk, IfSome, IsSome, OnOk, OnErr, slice_set, true, is_some, replicate, Some, [], List, All};
     ghost use Rattle.std.specs.Bool.{OnTrue, OnFalse};
-    ghost use Rattle.tq_shape.specs.Depth.{depth_of};
+    ghost use Rattle.tq_shape.specs.Tree.{depth_of};
     ghost use Rattle.tq_coterie.specs.Coterie.{IsMemberList};
-    ghost use Rattle.tq_live.specs.Live.{best, best_cost, blocker, costs_of, is_up, members_up, HasQuorumOrBlocker, HasQuorumOrBlockerUnder};
-    ghost use Rattle.tq_live.specs.Live.{new_live, with_both_costs, with_costs, with_mark};
-    ghost use Rattle.tq_live.specs.Collected.{IsFound, AreServersOf};
-    ghost use Rattle.tq_live.specs.LiveOf.{IsAt, changed_live};
-    ghost use Rattle.tq_live.specs.Kept.{costs_after};
+    ghost use Rattle.tq_live.specs.Live.{best, best_cost, blocker, costs_of, is_up, members_up, HasQuorumOrBlocker, HasQuorumOrBlockerUnder, new_live, with_both_costs, with_costs, with_mark, IsChoice, IsFirstChoice, IsBestOf, IsFirstOf};
+    ghost use Rattle.tq_live.specs.Least.{IsFound, AreServersOf};
+    ghost use Rattle.tq_live.specs.Kept.{IsAt, changed_live, costs_after, found_set};
     ghost use Rattle.tq_live.specs.Costs.{AreCosts, AreLow, no_costs};
-    ghost use Rattle.tq_live.specs.SearchFor.{found_set};
-    ghost use Rattle.tq_live.specs.Choice.{IsChoice, IsFirstChoice};
-    ghost use Rattle.tq_live.specs.BestOf.{IsBestOf, IsFirstOf};
 
     /// Every server at cost 1 for each purpose and up.
     pub fn new(alloc: Global, levels: Levels) -> Result<LiveTree, Memory>

@@ -1,8 +1,7 @@
-//! The view, its asks and its replies.
+//! The view, its asks and its replies, and what an ask changes in it.
 
 ghost use Rattle.std.specs.Prelude.{◌≡◌, ◌++◌, ◌∷◌, [], List, ℕ, IfOk, OnOk, OnErr};
 
-use crate::change::ViewChange;
 use crate::choice::Choice;
 use crate::costs::{Costs, are_costs};
 use crate::purpose::Purpose;
@@ -10,8 +9,7 @@ use crate::tree::{LiveTree, Turns};
 use std::alloc::Global;
 use std::marker::Model;
 use tq_coterie::{Blocker, Quorum};
-use tq_part::Plan;
-use tq_shape::{ExactClone, Levels, Memory};
+use tq_shape::{ExactClone, Levels, Memory, Plan, ServerId};
 
 /// What a view is asked.
 #[derive(Clone, Copy, Debug, PartialEq, Eq)]
@@ -102,10 +100,10 @@ impl Model for View {
 
 impl View {
     ghost use Rattle.std.specs.Prelude.{◌≡◌, ◌++◌, ◌∷◌, [], List, ℕ, IfOk, OnOk, OnErr};
-    ghost use Rattle.tq_shape.specs.declared.entry.Entry.{Entry};
+    ghost use Rattle.tq_shape.specs.declared.part.Entry.{Entry};
     ghost use Rattle.tq_live.specs.Live.{HasQuorumOrBlocker};
     ghost use Rattle.tq_live.specs.View.{view_reply, view_after, view_state, GoesWithJournal, IsFirstReply, ReplaysJournals};
-    ghost use Rattle.tq_live.specs.ViewChanges.{view_change, view_changed, ViewFits};
+    ghost use Rattle.tq_live.specs.ViewLaws.{view_change, view_changed, ViewFits};
     ghost use Rattle.tq_live.specs.declared.purpose.Purpose.{Purpose};
     ghost use Rattle.tq_live.specs.declared.view.ViewAsk.TheVariants.{Choose};
 
@@ -279,4 +277,18 @@ fn plan_refusal(reason: ViewRefusal) -> Plan<ViewReply, ViewChange>
         reply: ViewReply::Refused(reason),
         change: ViewChange::Nothing,
     }
+}
+
+/// What an ask changes in a view.
+#[derive(Drop)]
+pub enum ViewChange {
+    /// The ask is refused, or only looks.
+    Nothing,
+    /// The server has these costs, which are ones that a server may have.
+    Cost { server: ServerId, costs: Costs },
+    /// The server has this mark.
+    Mark { server: ServerId, up: bool },
+    /// Costs and marks stay. This quorum was chosen for the purpose, and the next choice of the same one for it shares its
+    /// list.
+    Keep { purpose: Purpose, quorum: Quorum },
 }

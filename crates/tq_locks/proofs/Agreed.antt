@@ -14,8 +14,7 @@ use Rattle.tq_locks.specs.declared.mode.Lock.{Lock}
 use Rattle.tq_locks.specs.Locks.{LockKey, lock_cmp}
 use Rattle.tq_locks.specs.Keys.{place}
 use Rattle.tq_locks.specs.Kept.{AreKeysOf}
-use Rattle.tq_locks.proofs.LockMaps.{locks_total, locks_same}
-use Rattle.tq_locks.proofs.Found.{none_some, some_same}
+use Rattle.tq_locks.proofs.Found.{locks_total, locks_same, none_some, some_same}
 use Rattle.tq_locks.proofs.Locked.{same_key}
 use Rattle.tq_locks.proofs.Placed.{insert-place, remove-place, where_key-put, where_key-swap, other_keys, revalued, put-revalued}
 

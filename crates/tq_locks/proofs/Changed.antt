@@ -18,8 +18,7 @@ use Rattle.tq_locks.specs.declared.mode.Lock.{Lock}
 use Rattle.tq_locks.specs.Locks.{LockKey, Locks, lock_cmp, held_of, locks_after_release, only_stable, HasNoConflict}
 use Rattle.tq_locks.specs.Keys.{place, keys_under}
 use Rattle.tq_locks.specs.Kept.{locks_in, on_file, Agrees}
-use Rattle.tq_locks.proofs.LockMaps.{locks_total, locks_same}
-use Rattle.tq_locks.proofs.Found.{none_some, some_same, Has-looked_up, entry_of}
+use Rattle.tq_locks.proofs.Found.{locks_total, locks_same, none_some, some_same, Has-looked_up, entry_of}
 use Rattle.tq_locks.proofs.Locked.{same_key, get-released, get-only_stable}
 use Rattle.tq_locks.proofs.Placed.{other_keys}
 use Rattle.tq_locks.proofs.Agreed.{put_listed, set_listed, remove_listed, filter-Has, key_of, Has-values, values-Has, itself, apart, alike}

@@ -1,18 +1,37 @@
--- What a search through a finite map's entries finds, and what a look-up says of them.
-use Rattle.std.proofs.Common.{◌≡◌, Bool, true, false, cond, ◌&&◌, List, [], ◌∷◌, Some, None, refl, ap, sym, subst, ◌∙◌, ◌⊎◌, inl, inr, unwrap_or}
+-- The order of locks. What a search through a finite map's entries finds, and what a look-up says of them. A tree's
+-- entries, which rise by their keys, and the finite map that contracts see.
+use Rattle.std.specs.Cmp.{IsTotalOrder, nat_cmp_total, eq_by_cmp_equiv}
+use Rattle.std.specs.Cmp.Lexicographic.{nat_list_cmp_total}
+use Rattle.std.specs.FinMap.{IsAntisymmetric, nat_cmp-IsAntisymmetric, slice_cmp-IsAntisymmetric, FinMap, is_sorted}
+use Rattle.std.proofs.lemmas.Cmp.{on_total, then_total}
+use Rattle.std.proofs.lemmas.Map.Lookups.{exact_pairs}
+use Rattle.tq_store.specs.Copies.{name_cmp}
+use Rattle.std.specs.Ordering.{nat_cmp, is_lt, is_eq, ordering_reverse, eq_by_cmp}
+use Rattle.tq_locks.specs.Locks.{LockKey, lock_cmp}
+use Rattle.std.proofs.Common.{◌≡◌, Bool, true, false, cond, ◌&&◌, List, [], ◌∷◌, Some, None, refl, ap, sym, subst, ◌∙◌, ◌⊎◌, inl, inr, unwrap_or, filter}
 use lib.Dec.{T}
 use mathlib.Core.Bool.{true≢false}
-use Rattle.std.specs.Cmp.{IsTotalOrder}
 use Rattle.std.specs.FinMap as fin
-use Rattle.std.specs.FinMap.{FinMap, is_sorted, IsAntisymmetric}
 use Rattle.std.specs.FinMap.Entries.{below_all}
-use Rattle.std.specs.List.{find}
+use Rattle.std.specs.List.{find, AllByRecursion}
 use Rattle.std.specs.Option.{is_none}
-use Rattle.std.specs.Ordering.{is_lt, is_eq, ordering_reverse}
 use Rattle.std.specs.declared.cmp.Ordering.{Ordering}
 use Rattle.std.specs.declared.cmp.Ordering.TheVariants.{Less, Equal, Greater}
-use Rattle.tq_shape.proofs.Orderings.{is_eq-Equal}
+use Rattle.tq_shape.proofs.Options.{is_eq-Equal}
 use Rattle.tq_shape.specs.Journal.{Has}
+use Rattle.std.proofs.lemmas.Map.Entries.{lookup-filter-keys}
+use Rattle.std.specs.BTreeMap.{is_at}
+use Rattle.std.specs.List.Sorted.{IsStrictlySortedBy}
+use Rattle.std.specs.Map.{lookup, keys_of}
+
+pub locks_total : IsTotalOrder lock_cmp
+locks_total = then_total (on_total (λ (k : LockKey). k.0) nat_list_cmp_total) (on_total (λ (k : LockKey). k.1) nat_cmp_total)
+
+-- keys that compare alike are one
+pub locks_same : IsAntisymmetric lock_cmp
+locks_same a b h = exact_pairs name_cmp nat_cmp (slice_cmp-IsAntisymmetric nat_cmp-IsAntisymmetric) nat_cmp-IsAntisymmetric a b h
+
+-- ---- found
 
 pub some_same : {A : Type 0} (x y : A) → Some x ≡ Some y → x ≡ y
 some_same x y e = ap (λ o. unwrap_or o x) e
@@ -102,3 +121,52 @@ module _ {K X : Type 0} {R : K → K → Ordering} (o : IsTotalOrder R) (same : 
 
   pub get-entry_of : (m : FinMap R X) (x : K × X) → Has (fin.entries m) x → fin.get m x.0 ≡ Some x.1
   get-entry_of m x h = fin.get-entries m x.0 ∙ looked_up (fin.entries m) x (fin.entries_sorted m) h
+
+-- ---- ordered
+
+pub both : (a b : Bool) → T a → T b → T (a && b)
+both true b x y = y
+both false b x y = absurd x
+
+module _ {K X : Type 0} (R : K → K → Ordering) where
+  below : (k : K) (es : List (K × X)) → AllByRecursion (λ y. R k y ≡ Less) (keys_of es) → T (below_all R k es)
+  below k [] h = tt
+  below k (e ∷ es) h = both _ _ (subst (λ r. T (is_lt r)) (sym h.0) tt) (below k es h.1)
+
+  pub sorted_test : (es : List (K × X)) → IsStrictlySortedBy R (keys_of es) → T (is_sorted R es)
+  unfolding IsStrictlySortedBy
+  sorted_test [] h = tt
+  sorted_test (e ∷ es) h = both _ _ (below e.0 es h.0) (sorted_test es h.1)
+
+  pub find_entry : (es : List (K × X)) (q : K) → fin.find R q es ≡ lookup (is_at (R q)) es
+  find_entry [] q = refl
+  find_entry (e ∷ es) q = ap (cond (is_at (R q) e.0) (Some e.1)) (find_entry es q)
+
+is_at-Equal : {K : Type 0} (R : K → K → Ordering) (q k : K) → is_at (R q) k ≡ true → R q k ≡ Equal
+is_at-Equal R q k h = is_eq-Equal (R q k) h
+
+module _ {K X : Type 0} {R : K → K → Ordering} (o : IsTotalOrder R) where
+  -- what the finite map has at a key
+  pub get_entry : (es : List (K × X)) (q : K) → fin.get (fin.from_entries {R = R} es) q ≡ lookup (is_at (R q)) es
+  get_entry es q = fin.get-from_entries o es q ∙ find_entry R es q
+
+  -- the finite map's entries are the tree's
+  pub entries-from_ordered : IsAntisymmetric R → (es : List (K × X)) → IsStrictlySortedBy R (keys_of es) → fin.entries (fin.from_entries {R = R} es) ≡ es
+  entries-from_ordered same es h =
+      let t = sorted_test R es h in
+      ap fin.entries (fin.same_map o same (fin.from_entries es) (fin.from_sorted es) (λ q. fin.get-from_entries o es q ∙ sym (fin.get-from_sorted R es q t))) ∙ fin.entries-from_sorted R es t
+
+  -- entries that differ at one key make maps that differ there
+  pub one_changed : IsAntisymmetric R → (es fs : List (K × X)) (k : K) (x : X) → ((q : K) → lookup (is_at (R q)) fs ≡ cond (is_at (R k) q) (Some x) (lookup (is_at (R q)) es)) → fin.from_entries {R = R} fs ≡ fin.insert (fin.from_entries es) k x
+  one_changed same es fs k x h = fin.same_map o same _ _ (λ q.
+      get_entry fs q ∙ h q
+      ∙ ap (λ b. cond b (Some x) (lookup (is_at (R q)) es)) ((eq_by_cmp_equiv o).symm k q)
+      ∙ sym (fin.get-insert o (fin.from_entries es) k x q ∙ ap (cond (eq_by_cmp R q k) (Some x)) (get_entry es q)))
+
+  -- a tree without the entries that fail a test of the keys
+  pub from_entries-filter : IsAntisymmetric R → (p : K → Bool) → (es : List (K × X)) → fin.from_entries {R = R} (filter (λ e. p e.0) es) ≡ fin.retain_keys (fin.from_entries es) p
+  from_entries-filter same p es = fin.same_map o same _ _ (λ q.
+      get_entry (filter (λ e. p e.0) es) q
+      ∙ lookup-filter-keys (is_at (R q)) p (p q) (λ k t. ap p (sym (same q k (is_at-Equal R q k t)))) es
+      ∙ ap (λ v. cond (p q) v None) (sym (get_entry es q))
+      ∙ sym (fin.get-retain_keys (fin.from_entries es) p q (λ k t. ap p (sym (same q k t)))))

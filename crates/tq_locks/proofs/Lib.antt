@@ -1,5 +1,3 @@
-pub mod Ordered
-pub mod LockMaps
 pub mod Found
 pub mod Placed
 pub mod Agreed
@@ -7,14 +5,7 @@ pub mod Partition
 pub mod Changed
 pub mod Applied
 pub mod Steadied
-pub mod InOrder
-pub mod Copied
+pub mod Listed
 pub mod Locked
-pub mod TakenOut
-pub mod Indexed
-pub mod Asked
-pub mod Sinking
 pub mod Rings
 pub mod Blocks
-pub mod Listed
-pub mod Loosened

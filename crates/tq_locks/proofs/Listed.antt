@@ -1,10 +1,18 @@
--- Keys that a list has.
-use Rattle.std.proofs.Common.{◌≡◌, ◌++◌, ℕ, nat_eq, zero, suc, ◌+◌, ◌≤◌, drop, ◌||◌, Bool, false, ap, sym, length, Option, Some, None, true, List, [], ◌∷◌, refl, ◌∙◌, inl, inr, ◌⊎◌, arith}
+-- Keys that a list has. Locks that are not stable are listed, after each change of a slab. A slab and lists of keys
+-- that are clones hold the same.
+use Rattle.std.proofs.Common.{◌≡◌, ◌++◌, ℕ, nat_eq, zero, suc, ◌+◌, ◌≤◌, drop, ◌||◌, Bool, false, ap, sym, length, Option, Some, None, true, List, [], ◌∷◌, refl, ◌∙◌, inl, inr, ◌⊎◌, arith, ◌≢◌, ◌==◌, cond, subst}
 use Rattle.std.proofs.lemmas.Bool.Decides.{nat_tests}
 use mathlib.Core.Bool.{true≢false}
-use Rattle.std.specs.List.{list_any, filter_map, cons_option, slice_get}
+use Rattle.std.specs.List.{list_any, filter_map, cons_option, slice_get, AllZip}
 use Rattle.tq_shape.specs.Journal.{Has}
 use Rattle.tq_locks.proofs.Found.{none_some, some_same}
+use Rattle.std.proofs.lemmas.Bool.{cases_eq}
+use Rattle.std.specs.Option.{option_map, option_map_or}
+use Rattle.slab.specs.Slab.{Slab, get, slab_len, Updates}
+use Rattle.tq_locks.specs.declared.mode.Lock.{Lock}
+use Rattle.tq_locks.specs.Locks.{LockKey, ListsLoose, room_with, with_lock}
+use Rattle.std.specs.Map.{lookup}
+use Rattle.smallvec.specs.SmallVec.{SmallVec}
 
 pub Has-more : (xs ys : List ℕ) (k : ℕ) → Has xs k → Has (xs ++ ys) k
 Has-more [] ys k h = absurd h
@@ -61,3 +69,72 @@ told_most {B = B} f (x ∷ xs) = by_look (f x) (told_most f xs)
     by_look : (o : Option B) → length (filter_map f xs) ≤ length xs → length (cons_option o (filter_map f xs)) ≤ suc (length xs)
     by_look None h = omega (arith, h)
     by_look (Some y) h = omega (arith, h)
+
+-- ---- loosened
+
+abbrev Entry : Type 0
+Entry = LockKey × Lock
+
+-- where there is room, the next key is listed
+pub vacant_listed : (slab : Slab Entry) (keys : List ℕ) → slab_len slab + 1 ≤ room_with slab keys → Has keys slab.vacant_key
+vacant_listed slab keys room = by_test (list_any (nat_eq slab.vacant_key) keys) refl room
+  where
+    by_test : (b : Bool) → list_any (nat_eq slab.vacant_key) keys ≡ b → slab_len slab + 1 ≤ cond b slab.capacity (slab_len slab) → Has keys slab.vacant_key
+    by_test true e r = any-Has keys slab.vacant_key e
+    by_test false e r = absurd (omega (arith, r))
+
+pub listed_room : (slab : Slab Entry) (keys : List ℕ) (key : ℕ) → key ≡ slab.vacant_key → Has keys key → slab_len slab + 1 ≤ slab.capacity → slab_len slab + 1 ≤ room_with slab keys
+listed_room slab keys key is has room =
+    subst (λ b. slab_len slab + 1 ≤ cond b slab.capacity (slab_len slab)) (sym (Has-any keys slab.vacant_key (subst (Has keys) is has))) room
+
+-- one more lock, whose key is listed
+pub inserted_lists : (old new : Slab Entry) (keys : List ℕ) (key : ℕ) (e : Entry) → ListsLoose old keys → Updates old new key (Some e) → Has keys key → ListsLoose new keys
+inserted_lists old new keys key e lists u has k loose = elim (cases_eq k key) [
+  | inl one ↦ subst (Has keys) (sym one) has
+  | inr other ↦ lists k (loose.0, sym (u.others k other) ∙ loose.1, loose.2)
+]
+
+module _ (old new : Slab Entry) (key : ℕ) (lock : Lock) (put : (k : ℕ) → get new k ≡ with_lock old key lock k) where
+  pub put_lists : (keys : List ℕ) → ListsLoose old keys → ((entry : Entry) → get old key ≡ Some entry → lock.stable ≡ entry.1.stable) → ListsLoose new keys
+  put_lists keys lists as_stable k loose = elim (cases_eq k key) [
+    | inl one ↦ by_look one (get old key) refl
+    | inr other ↦ lists k (loose.0, sym (ap (λ b. cond b (option_map (λ (e : Entry). (e.0, lock)) (get old k)) (get old k)) (apart other)) ∙ sym (put k) ∙ loose.1, loose.2)
+  ]
+    where
+      apart : k ≢ key → (k == key) ≡ false
+      apart other = by_test (k == key) refl
+        where
+          by_test : (b : Bool) → (k == key) ≡ b → b ≡ false
+          by_test false e = refl
+          by_test true e = absurd (other (same e))
+            where
+              same : (k == key) ≡ true → k ≡ key
+              same h = grind (arith, nat_tests)
+
+      here : k ≡ key → get new k ≡ option_map (λ (e : Entry). (e.0, lock)) (get old key)
+      here one = put k ∙ ap (λ n. cond (n == key) (option_map (λ (e : Entry). (e.0, lock)) (get old n)) (get old n)) one ∙ ap (λ b. cond b (option_map (λ (e : Entry). (e.0, lock)) (get old key)) (get old key)) (itself key)
+        where
+          itself : (n : ℕ) → (n == n) ≡ true
+          itself n = grind (arith, nat_tests)
+
+      by_look : k ≡ key → (o : Option Entry) → get old key ≡ o → Has keys k
+      by_look one None at = absurd (none_some loose.0 (sym (here one ∙ ap (option_map (λ (e : Entry). (e.0, lock))) at) ∙ loose.1))
+      by_look one (Some e) at =
+          let is : (e.0, lock) ≡ loose.0 = some_same (e.0, lock) loose.0 (sym (here one ∙ ap (option_map (λ (x : Entry). (x.0, lock))) at) ∙ loose.1) in
+          subst (Has keys) (sym one) (lists key (e, at, sym (as_stable e at) ∙ ap (λ (x : Entry). x.1.stable) is ∙ loose.2))
+
+-- ---- copied
+
+module _ {K : Type 0} (C : K → K → Type 0) (same : (x y : K) → C x y → y ≡ x) (test : K → Bool) where
+  pub cloned_lists : (es fs : List (K × SmallVec ℕ)) → AllZip (λ p q. C p.0 q.0 × (q.1.items ≡ p.1.items)) es fs → option_map_or (λ keys. keys.items) (lookup test fs) [] ≡ option_map_or (λ keys. keys.items) (lookup test es) []
+  cloned_lists [] [] z = refl
+  cloned_lists [] (f ∷ fs) z = absurd z
+  cloned_lists (e ∷ es) [] z = absurd z
+  cloned_lists (e ∷ es) (f ∷ fs) z =
+      ap (λ k. option_map_or (λ keys. keys.items) (cond (test k) (Some f.1) (lookup test fs)) []) (same e.0 f.0 z.0.0)
+      ∙ by_test (test e.0) (cloned_lists es fs z.1)
+    where
+      by_test : (b : Bool) → option_map_or (λ keys. keys.items) (lookup test fs) [] ≡ option_map_or (λ keys. keys.items) (lookup test es) []
+          → option_map_or (λ keys. keys.items) (cond b (Some f.1) (lookup test fs)) [] ≡ option_map_or (λ keys. keys.items) (cond b (Some e.1) (lookup test es)) []
+      by_test true next = z.0.1
+      by_test false next = next

@@ -17,11 +17,10 @@ use Rattle.tq_locks.specs.Locks.{LockKey, Locks, lock_cmp, conflicts, stronger, 
 use Rattle.tq_locks.specs.declared.mode.Mode.{Mode}
 use Rattle.tq_locks.specs.declared.mode.Mode.TheVariants.{Shared, Exclusive}
 use Rattle.tq_locks.specs.declared.mode.Lock.{Lock}
-use Rattle.tq_locks.proofs.Found.{first, second, below_each, some_same, none_some, none_passes, first_passes, entry_of, get-entry_of}
+use Rattle.tq_locks.proofs.Found.{first, second, below_each, some_same, none_some, none_passes, first_passes, entry_of, get-entry_of, locks_total, locks_same}
 use Rattle.tq_shape.proofs.Places.{find-Has}
-use Rattle.tq_locks.proofs.LockMaps.{locks_total, locks_same}
 use Rattle.tq_shape.specs.Journal.{Has}
-use Rattle.tq_shape.proofs.Orderings.{is_eq-Equal}
+use Rattle.tq_shape.proofs.Options.{is_eq-Equal}
 
 abbrev key : List ℕ → ℕ → LockKey
 key file txn = (file, txn)

@@ -1,10 +1,27 @@
--- What happens in one block.
-use Rattle.std.proofs.Common.{◌≡◌, ◌+◌, ◌-◌, ◌%◌, ◌<◌, ◌++◌, ℕ, List, [], ◌∷◌, length, take, drop, get_or, slice_set, ap, sym, ◌∙◌, inl, inr, arith}
+-- A key that goes down a list, one place after the other. What happens in one block.
+use Rattle.std.proofs.Common.{◌≡◌, ◌<◌, ◌++◌, ℕ, zero, suc, List, [], ◌∷◌, length, slice_index_or, slice_set, refl, ap, arith, ◌+◌, ◌-◌, ◌%◌, take, drop, get_or, sym, ◌∙◌, inl, inr}
+use Rattle.std.specs.List.{insert, swap, copy_within}
 use Rattle.std.proofs.lemmas.List.{append_assoc, append-nil, length-append, length-drop, length-take, length-take-le, take_at, drop_at, set_at, take_all, drop_all, take-append-drop, take_more, drop_more, take_more_set, drop-set-lt, get_or-drop, get_or-take, get_or_append_left, get_or-append_right, get_or-set_same, length-set, set-set, set-get_or}
 use Rattle.std.proofs.lemmas.Bool.{cases_lt}
 use Rattle.std.proofs.Math.Nat.{mod-eq_of_lt, mod-lt}
-use Rattle.std.specs.List.{insert, copy_within}
 use Rattle.tq_locks.specs.Keys.{turn}
+
+pub longer : (front : List ℕ) (key : ℕ) → length (front ++ key ∷ []) ≡ suc (length front)
+longer [] key = refl
+longer (x ∷ front) key = ap suc (longer front key)
+
+lower : (front : List ℕ) (p key d : ℕ) → p < length front
+    → slice_set (slice_set (insert front (suc p) key) p (slice_index_or (insert front (suc p) key) (suc p) d)) (suc p) (slice_index_or (insert front (suc p) key) p d) ≡ insert front p key
+lower [] p key d less = absurd (omega (arith, less))
+lower (x ∷ front) zero key d less = refl
+lower (x ∷ front) (suc p) key d less = ap (λ keys. x ∷ keys) (lower front p key d (omega (arith, less)))
+
+-- one place down
+pub swapped : (front : List ℕ) (p key : ℕ) → p < length front → swap (insert front (suc p) key) p (suc p) ≡ insert front p key
+swapped [] p key less = absurd (omega (arith, less))
+swapped (x ∷ front) p key less = lower (x ∷ front) p key x less
+
+-- ---- rings
 
 -- the last key goes, and those from a place on move up
 pub opened : (keys : List ℕ) (place end key : ℕ) → place < length keys → end ≡ length keys - 1

@@ -5,7 +5,7 @@ use Rattle.std.specs.List.Sorted.{IsPermutation}
 use Rattle.std.specs.Option.{option_map, option_map_or, option_and_then}
 use Rattle.std.specs.FinMap as fin
 use Rattle.std.specs.Ordering.{is_lt}
-use Rattle.tq_shape.specs.Steps.{state_at}
+use Rattle.tq_shape.specs.Journal.{state_at}
 use Rattle.slab.specs.Slab.{Slab, get, slab_len, values}
 use Rattle.tq_store.specs.Names.{same_name}
 use Rattle.tq_locks.specs.declared.keyed.KeyedLocks.{KeyedLocks}

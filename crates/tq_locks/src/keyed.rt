@@ -6,11 +6,10 @@ ghost use Rattle.std.specs.Result.{result_err};
 ghost use Rattle.tq_store.specs.Names.{same_name};
 ghost use Rattle.indexmap.specs.IndexMap.{index_of};
 ghost use Rattle.slab.specs.Slab.{get, slab_len, values, Updates};
-ghost use Rattle.tq_shape.specs.Steps.{state_at};
-ghost use Rattle.tq_locks.specs.Locks.{LockKey, Locks, locks_after_keep, locks_after_release, only_stable};
+ghost use Rattle.tq_shape.specs.Journal.{state_at};
+ghost use Rattle.tq_locks.specs.Locks.{LockKey, Locks, locks_after_keep, locks_after_release, only_stable, IsAsStable, IsLooseAt, entry_after_steady};
 ghost use Rattle.tq_locks.specs.Keys.{lent_keys, keys_under, place, entries_of};
 ghost use Rattle.tq_locks.specs.Kept.{first_blocker};
-ghost use Rattle.tq_locks.specs.Loose.{IsAsStable, IsLooseAt, entry_after_steady};
 
 use crate::index::{
     Spot, end_empty_under, enter_under, list_under, listed_under, make_room_under, put_under,
@@ -44,9 +43,7 @@ pub(crate) struct Found {
 }
 
 impl KeyedLocks {
-    ghost use Rattle.tq_locks.specs.Kept.{decided_on, file_index, file_keys, lock_found, locks_in, told_on, Agrees};
-    ghost use Rattle.tq_locks.specs.Kept.{EndsLock, FindsNone, FindsNoneAt, FindsOwn, FindsOwnAt, HasOneFewer};
-    ghost use Rattle.tq_locks.specs.Kept.{IsInserted, IsPlaceInFile, IsSpotOf, LeavesFile, SetsLock};
+    ghost use Rattle.tq_locks.specs.Kept.{decided_on, file_index, file_keys, lock_found, locks_in, told_on, Agrees, EndsLock, FindsNone, FindsNoneAt, FindsOwn, FindsOwnAt, HasOneFewer, IsInserted, IsPlaceInFile, IsSpotOf, LeavesFile, SetsLock};
     ghost use Rattle.tq_locks.specs.declared.mode.Lock.{Lock};
 
     pub(crate) fn new(alloc: Global) -> KeyedLocks
@@ -350,10 +347,9 @@ impl<'a> HeldLocks<'a> {
 }
 
 impl<'a> Model for HeldLocks<'a> {
-    ghost use Rattle.std.specs.Prelude.{List};
+    ghost use Rattle.std.specs.Prelude.{List, drop};
     ghost use Rattle.tq_locks.specs.Locks.{LockKey};
     ghost use Rattle.tq_locks.specs.declared.mode.Lock.{Lock};
-    ghost use Rattle.std.specs.Prelude.{drop};
     ghost use Rattle.tq_locks.specs.Keys.{entries_of};
 
     ghost Value = { List (LockKey × Lock) };

@@ -5,8 +5,7 @@ ghost use Rattle.std.specs.Option.{option_copied};
 ghost use Rattle.slab.specs.Slab.{get, entries, slab_len, HasRoomFor, ContainsKey, Updates};
 ghost use Rattle.tq_shape.specs.Journal.{Has};
 ghost use Rattle.tq_locks.specs.declared.mode.Lock.{Lock};
-ghost use Rattle.tq_locks.specs.Locks.{LockKey};
-ghost use Rattle.tq_locks.specs.Loose.{entry_after_steady, with_lock, AreStable, IsAsStable, IsLooseAt, IsStableAt, ListsLoose, PutsLock};
+ghost use Rattle.tq_locks.specs.Locks.{LockKey, entry_after_steady, with_lock, AreStable, IsAsStable, IsLooseAt, IsStableAt, ListsLoose, PutsLock};
 
 use crate::{Lock, LockEntry};
 use slab::{Iter, Slab};
@@ -27,8 +26,7 @@ pub(crate) struct LockSlab {
 impl Model for LockSlab {
     ghost use Rattle.slab.specs.Slab.{Slab as Slots, slab_code};
     ghost use Rattle.tq_locks.specs.declared.mode.Lock.{Lock};
-    ghost use Rattle.tq_locks.specs.Locks.{LockKey, lock_entry_code};
-    ghost use Rattle.tq_locks.specs.Loose.{with_room, ListsLoose};
+    ghost use Rattle.tq_locks.specs.Locks.{LockKey, lock_entry_code, with_room, ListsLoose};
 
     ghost Value = { Slots (LockKey × Lock) };
 

@@ -79,8 +79,7 @@ impl Model for LockTable {
 }
 
 impl LockTable {
-    ghost use Rattle.tq_locks.specs.Locks.{blocker, held_of, holds_nothing, locks_after_keep, only_stable, outcome, locks_after_release};
-    ghost use Rattle.tq_locks.specs.Locks.{HasNoConflict, IsAmong, IsAsked, IsFree, IsGranted, IsLeastBlocker, IsTold};
+    ghost use Rattle.tq_locks.specs.Locks.{blocker, held_of, holds_nothing, locks_after_keep, only_stable, outcome, locks_after_release, HasNoConflict, IsAmong, IsAsked, IsFree, IsGranted, IsLeastBlocker, IsTold};
     ghost use Rattle.slab.specs.Slab.{get};
     ghost use Rattle.std.specs.Option.{option_copied};
     ghost use Rattle.tq_locks.specs.Kept.{on_file, ListsKeysOf, HasOneKeyEach};

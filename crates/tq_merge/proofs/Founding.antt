@@ -1,10 +1,17 @@
--- What is founded stays founded: a step rests on the entries that it cites, and on nothing else of the world.
+-- The citations of ops, one op after another. What is founded stays founded: a step rests on the entries that it
+-- cites, and on nothing else of the world.
+use Rattle.std.proofs.Common.{◌≡◌, ◌<◌, ◌+◌, ℕ, List, [], ◌∷◌, ◌++◌, length, map, take, get_or, sym, ap, ◌∙◌, append_assoc, ◌≤◌, Bool, true, false, Option, Some, None, refl, subst, inl, inr, arith}
+use Rattle.std.proofs.lemmas.List.{append-nil}
+use Rattle.tq_evidence.specs.declared.op.Op.{Op}
+use Rattle.tq_core.specs.declared.citation.Citation.{Citation}
+use Rattle.tq_core.specs.Founded.{cited_grant, is_founded_grant, is_founded_vote, is_founded_copy, is_founded_verdict, is_granted, is_voted, is_peeked, is_ended, cited_vote, unless, unfounded_grant, unfounded_op, unfounded_vote, cited_in_work, unfounded_in_work}
+use Rattle.tq_tables.proofs.RowLaws.{take-next}
+use Rattle.tq_merge.specs.Placing.{cited_in_ops, cited_in}
 use Rattle.std.specs.Prelude.{not}
-use Rattle.std.proofs.Common.{◌≡◌, ◌≤◌, ℕ, Bool, true, false, List, [], ◌∷◌, map, take, Option, Some, None, refl, sym, ap, subst, ◌∙◌, inl, inr, arith}
 use Rattle.std.specs.List.{find}
 use Rattle.std.specs.Option.{option_map, option_map_or, option_and_then, option_to_list}
 use Rattle.std.proofs.lemmas.Bool.{cond-false}
-use Rattle.tq_shape.specs.Journal.{Has}
+use Rattle.tq_shape.specs.Journal.{Has, or_else}
 use Rattle.tq_shape.specs.declared.part.Part.{Part}
 use Rattle.tq_shape.specs.declared.part.Part.TheVariants as parts
 use Rattle.tq_shape.proofs.Options.{map-none, or_else-none}
@@ -14,21 +21,31 @@ use Rattle.tq_asks.specs.declared.ask.WorkAsk.{WorkAsk}
 use Rattle.tq_asks.specs.declared.ask.WorkAsk.TheVariants as work
 use Rattle.tq_desk.specs.declared.ask.DeskAsk.TheVariants as desk_asks
 use Rattle.tq_evidence.specs.declared.grant.Grant.{Grant}
-use Rattle.tq_evidence.specs.declared.op.Op.{Op}
 use Rattle.tq_evidence.specs.declared.vote.Vote.{Vote}
 use Rattle.tq_tables.specs.Journals.{JournalsView, ViewEntry}
 use Rattle.tq_node.specs.NodeJournal.{NodeEntry}
 use Rattle.tq_desk.specs.DeskJournal.{DeskEntry}
-use Rattle.tq_world.specs.declared.answer.Step.{Step}
-use Rattle.tq_world.specs.declared.answer.Step.TheVariants as steps
-use Rattle.tq_world.specs.declared.citation.Citation.{Citation}
-use Rattle.tq_world.specs.World.{item_at, server_entry}
-use Rattle.tq_world.specs.Founded.{is_founded_grant, is_founded_vote, is_founded_copy, is_founded_verdict, is_granted, is_voted, is_peeked, is_ended, cited_grant, cited_vote, unless, unfounded_grant, unfounded_op, unfounded_vote, cited_in_work, unfounded_in_work}
-use Rattle.tq_shape.specs.Steps.{or_else}
-use Rattle.tq_world.proofs.Contents.{tested-is}
-use Rattle.tq_merge.specs.Cited.{cited_in, cited_in_ops}
+use Rattle.tq_core.specs.declared.answer.Step.{Step}
+use Rattle.tq_core.specs.declared.answer.Step.TheVariants as steps
+use Rattle.tq_core.specs.World.{item_at, server_entry}
+use Rattle.tq_core.proofs.Contents.{tested-is}
 use Rattle.tq_merge.specs.Order.{firsts, unfounded_citation}
 use Rattle.tq_merge.proofs.Places.{first_item, item_first, item_each}
+
+cited_ops-push : (ops : List Op) (op : Op) → cited_in_ops (ops ++ op ∷ []) ≡ cited_in_ops ops ++ map cited_grant op.grants
+cited_ops-push [] op = append-nil (map cited_grant op.grants)
+cited_ops-push (first ∷ ops) op = ap (λ (rest : List Citation). map cited_grant first.grants ++ rest) (cited_ops-push ops op) ∙ sym (append_assoc (map cited_grant first.grants) (cited_in_ops ops) (map cited_grant op.grants))
+
+pub ops_next : (before now after : List Citation) (ops : List Op) (i : ℕ) (op : Op) → i < length ops → op ≡ get_or ops i op → now ≡ before ++ cited_in_ops (take i ops) → after ≡ now ++ map cited_grant op.grants
+    → after ≡ before ++ cited_in_ops (take (i + 1) ops)
+ops_next before now after ops i op less is so_far entered =
+    entered
+    ∙ ap (λ (cs : List Citation). cs ++ map cited_grant op.grants) so_far
+    ∙ append_assoc before (cited_in_ops (take i ops)) (map cited_grant op.grants)
+    ∙ ap (λ (cs : List Citation). before ++ cs) (sym (cited_ops-push (take i ops) op))
+    ∙ ap (λ (os : List Op). before ++ cited_in_ops os) (sym (take-next ops i op less is))
+
+-- ---- founding
 
 -- ---- the entries that are cited
 

@@ -1,23 +1,33 @@
--- Order or none: an order after which no part is next has placed the most of each part.
-use Rattle.std.proofs.Common.{◌≡◌, ◌≢◌, ◌≤◌, ◌<◌, ℕ, suc, Bool, true, false, List, [], ◌∷◌, ◌++◌, length, Option, Some, refl, sym, ap, subst, ◌∙◌, nat_lt, arith, append_assoc, ◌⊎◌, inl, inr}
-use Rattle.std.specs.Option.{unwrap_or}
-use Rattle.std.proofs.lemmas.Bool.{false≢true}
+-- Order or none: an order after which no part is next has placed the most of each part. Whether all entries are
+-- placed, and what follows where they are or are not. Rounds: each part in its turn, until nothing can be placed.
+use Rattle.std.proofs.Common.{◌≡◌, ◌≢◌, ◌≤◌, ◌<◌, ℕ, suc, Bool, true, false, List, [], ◌∷◌, ◌++◌, length, Option, Some, refl, sym, ap, subst, ◌∙◌, nat_lt, arith, append_assoc, ◌⊎◌, inl, inr, ◌+◌, ◌-◌, cond, map, None}
+use Rattle.std.specs.Option.{unwrap_or, option_map}
+use Rattle.std.proofs.lemmas.Bool.{false≢true, cases_Bool}
 use Rattle.std.proofs.lemmas.List.{append-nil}
 use Rattle.tq_shape.specs.declared.part.Part.{Part}
 use Rattle.tq_shape.specs.declared.part.Part.TheVariants as parts
-use Rattle.tq_tables.specs.Journals.{JournalsView, ViewEntry}
+use Rattle.tq_tables.specs.Journals.{JournalsView, ViewEntry, AreJournals}
 use Rattle.tq_node.specs.NodeJournal.{NodeEntry}
 use Rattle.tq_desk.specs.DeskJournal.{DeskEntry}
 use Rattle.tq_tables.specs.Parts.{AreLegal}
-use Rattle.tq_world.specs.declared.answer.Step.{Step}
-use Rattle.tq_world.specs.declared.answer.Step.TheVariants as steps
-use Rattle.tq_world.specs.World.{item_at, server_entry}
-use Rattle.tq_merge.specs.declared.counts.Counts.{Counts}
-use Rattle.tq_merge.specs.Order.{same_part, times, entries_of, counts_of, step_at, IsNext, ArePlaced, IsStuck}
-use Rattle.tq_merge.proofs.Places.{same_part-is, same_part-refl, times-same, times-other}
+use Rattle.tq_core.specs.declared.answer.Step.{Step}
+use Rattle.tq_core.specs.declared.answer.Step.TheVariants as steps
+use Rattle.tq_core.specs.World.{item_at, server_entry}
+use Rattle.tq_merge.specs.declared.fault.Counts.{Counts}
+use Rattle.tq_merge.specs.Order.{same_part, times, entries_of, counts_of, step_at, IsNext, ArePlaced, IsStuck, each_from, Explains, asks_of}
+use Rattle.tq_merge.proofs.Places.{same_part-is, same_part-refl, times-same, times-other, item_at-suc, item_each}
 use Rattle.tq_merge.proofs.Founding.{founded_more}
 use Rattle.tq_node.proofs.KeptLocks.{map-some}
-use Rattle.tq_merge.proofs.Runs.{chained, is_entry}
+use Rattle.tq_merge.proofs.Runs.{chained, is_entry, run_is, of_run}
+use Rattle.std.specs.Prelude.{slice_get}
+use Rattle.std.proofs.lemmas.Option.{slice_get-map, slice_get_within}
+use Rattle.tq_asks.specs.declared.ask.CitedVote.{CitedVote}
+use Rattle.tq_core.specs.Steps.{run}
+use Rattle.tq_core.specs.Headline.{HasCommittedReads}
+use Rattle.tq_core.proofs.Committed.{reads_of_run}
+use Rattle.tq_merge.specs.Placing.{IsPlacing, IsDone, entries_left}
+use Rattle.std.proofs.Math.Path.{transport}
+use Rattle.tq_core.proofs.Journaled.{item_above}
 
 cases_le : (a b : ℕ) → a ≤ b → (a < b) ⊎ (a ≡ b)
 cases_le a b le = by (nat_lt a b) refl
@@ -115,3 +125,127 @@ module _ (journals : JournalsView) where
         let fits = within order done part in
         omega arith);
   }
+
+-- ---- wholes
+
+item_map : {A B : Type 0} (f : A → B) (xs : List A) (number : ℕ) → item_at (map f xs) number ≡ option_map f (item_at xs number)
+item_map f xs number = by (nat_lt 0 number)
+  where
+    by : (b : Bool) → cond b (slice_get (map f xs) (number - 1)) None ≡ option_map f (cond b (slice_get xs (number - 1)) None)
+    by true = slice_get-map f xs (number - 1)
+    by false = refl
+
+each_map : {A B : Type 0} (f : ℕ → A → B) (h : A → B) (first : ℕ) (items : List A) → ((place : ℕ) (x : A) → slice_get items place ≡ Some x → f (first + place) x ≡ h x) → each_from f first items ≡ map h items
+each_map f h first [] same = refl
+each_map f h first (x ∷ items) same =
+    let at : first ≡ first + 0 = omega arith in
+    λ i. (ap (λ (n : ℕ). f n x) at ∙ same 0 x refl) i ∷ each_map f h (first + 1) items (λ place y is. ap (λ (n : ℕ). f n y) (omega arith) ∙ same (suc place) y is) i
+
+module _ (journals : JournalsView) (order : List Part) (servers : List ℕ) (desk : ℕ) (stands : Bool) (wanted : List CitedVote) (met : ℕ) (is : IsPlacing journals order servers desk stands wanted met) where
+  pub all_placed : desk ≡ length journals.desk → servers ≡ map length journals.servers → (part : Part) → times order part ≡ entries_of journals part
+  all_placed desk_is servers_are (parts.Server server) =
+      by (item_at journals.servers server) refl
+      (sym (item_each (λ n (es : List NodeEntry). times order (parts.Server n)) journals.servers server)
+      ∙ ap (λ (cs : List ℕ). item_at cs server) (sym is.of_servers ∙ servers_are)
+      ∙ item_map length journals.servers server)
+    where
+      by : (o : Option (List NodeEntry)) → item_at journals.servers server ≡ o → option_map (λ (es : List NodeEntry). times order (parts.Server server)) (item_at journals.servers server) ≡ option_map length (item_at journals.servers server)
+          → times order (parts.Server server) ≡ length (unwrap_or (item_at journals.servers server) [])
+      by None none same =
+          let most = within journals order is.founded (parts.Server server) in
+          let size = ap (λ (o : Option (List NodeEntry)). length (unwrap_or o [])) none in
+          omega (arith, most, size)
+      by (Some es) some same =
+          let both : Path (Option ℕ) (Some (times order (parts.Server server))) (Some (length es)) =
+          ap (option_map (λ (es : List NodeEntry). times order (parts.Server server))) (sym some) ∙ same ∙ ap (option_map length) some in
+          let count : times order (parts.Server server) ≡ length es = cc in
+          count ∙ sym (ap (λ (o : Option (List NodeEntry)). length (unwrap_or o [])) some)
+  all_placed desk_is servers_are parts.Desk = sym is.of_desk ∙ desk_is
+  all_placed desk_is servers_are parts.View = is.of_view
+
+  pub not_desk : (desk ≡ length journals.desk → ⊥) → ((part : Part) → times order part ≡ entries_of journals part) → ⊥
+  not_desk apart all = apart (is.of_desk ∙ all parts.Desk)
+
+  pub not_servers : (servers ≡ map length journals.servers → ⊥) → ((part : Part) → times order part ≡ entries_of journals part) → ⊥
+  not_servers apart all =
+      apart (is.of_servers ∙ each_map (λ n (es : List NodeEntry). times order (parts.Server n)) length 1 journals.servers
+      (λ place es there.
+      all (parts.Server (1 + place)) ∙ ap (λ (o : Option (List NodeEntry)). length (unwrap_or o [])) (ap (item_at journals.servers) (omega arith) ∙ item_at-suc journals.servers place ∙ there)))
+
+-- ---- as the journals that were given
+
+module _ (journals now : JournalsView) (order then : List Part) (same : now ≡ journals) (given : order ≡ then) (are : AreJournals journals) (legal : AreLegal journals) (founded : ArePlaced now [] then) where
+  explains_given : ((part : Part) → times then part ≡ entries_of now part) → Explains journals order
+  explains_given all = record {
+    legal = legal;
+    all = subst (λ (o : List Part). (part : Part) → times o part ≡ entries_of journals part) (sym given) (subst (λ (j : JournalsView). (part : Part) → times then part ≡ entries_of j part) same all);
+    founded = subst (λ (o : List Part). ArePlaced journals [] o) (sym given) (subst (λ (j : JournalsView). ArePlaced j [] then) same founded);
+  }
+
+  pub runs_given : ((part : Part) → times then part ≡ entries_of now part) → run journals.levels journals.limits (asks_of journals order) ≡ journals
+  runs_given all = run_is journals are order (explains_given all)
+
+  pub reads_given : ((part : Part) → times then part ≡ entries_of now part) → HasCommittedReads journals
+  reads_given all = reads_of_run journals (of_run journals are order (explains_given all))
+
+  pub stuck_given : (counts : Counts) → counts ≡ counts_of now (times then) → IsDone now then → (((part : Part) → times then part ≡ entries_of now part) → ⊥) → IsStuck journals counts
+  stuck_given counts counted done left =
+      stuck journals then counts legal
+      (subst (λ (j : JournalsView). ArePlaced j [] then) same founded)
+      (counted ∙ ap (λ (j : JournalsView). counts_of j (times then)) same)
+      (subst (λ (j : JournalsView). IsDone j then) same done)
+      (subst (λ (j : JournalsView). ((part : Part) → times then part ≡ entries_of j part) → ⊥) same left)
+
+-- ---- rounds
+
+-- the servers so far have no entry that can be placed
+abbrev pub AreBlocked : JournalsView → List Part → ℕ → Type 0
+AreBlocked journals order place = (k : ℕ) → k < place → IsNext journals order (parts.Server (suc k)) → ⊥
+
+module _ (first now after : JournalsView) (began order then : List Part) (place : ℕ) (moved placed : Bool)
+    (same : now ≡ first) (fewer : moved ≡ true → entries_left now order < entries_left first began) (still : moved ≡ false → (order ≡ began) × AreBlocked first began place)
+    (kept : after ≡ now) (less : placed ≡ true → entries_left after then < entries_left now order) (none : placed ≡ false → then ≡ order) (blocked : IsNext after then (parts.Server (suc place)) → ⊥) where
+  -- so far no more was left than at first
+  at_most : entries_left now order ≤ entries_left first began
+  at_most = by (cases_Bool moved)
+    where
+      by : (moved ≡ true) ⊎ (moved ≡ false) → entries_left now order ≤ entries_left first began
+      by (inl t) = let l = fewer t in omega (arith, l)
+      by (inr f) = let e : entries_left now order ≡ entries_left first began = (λ i. entries_left (same i) ((still f).0 i)) in omega (arith, e)
+
+  pub turn : (newly : Bool) → ((placed ≡ true) × (newly ≡ true)) ⊎ ((placed ≡ false) × (newly ≡ moved))
+      → (after ≡ first) × (newly ≡ true → entries_left after then < entries_left first began) × (newly ≡ false → (then ≡ began) × AreBlocked first began (place + 1))
+  turn newly (inl is) = (
+    kept ∙ same,
+    (λ _. let l = less is.0 in let m = at_most in omega (arith, l, m)),
+    (λ f. absurd (false≢true (sym f ∙ is.1))),
+  )
+  turn newly (inr is) =
+      let order_is = none is.0 in
+      let left_is : entries_left after then ≡ entries_left now order = (λ i. entries_left (kept i) (order_is i)) in (
+        kept ∙ same,
+        (λ t. let l = fewer (sym is.1 ∙ t) in omega (arith, l, left_is)),
+        (λ f. let old = still (sym is.1 ∙ f) in (order_is ∙ old.0, more (order_is ∙ old.0) old.1)),
+      )
+    where
+      more : then ≡ began → AreBlocked first began place → AreBlocked first began (place + 1)
+      more order_is old = λ k less next. by k next (nat_lt k place) refl less
+        where
+          by : (k : ℕ) → IsNext first began (parts.Server (suc k)) → (b : Bool) → nat_lt k place ≡ b → k < place + 1 → ⊥
+          by k next true t less = old k (grind (arith, t)) next
+          by k next false t less =
+              let at : k ≡ place = grind (arith, t, less) in
+              blocked (transport (λ i. IsNext (sym (kept ∙ same) i) (sym order_is i) (parts.Server (suc (at i)))) next)
+
+-- every server, the desk and the view
+pub all_done : (journals : JournalsView) (order : List Part) (count : ℕ) → count ≡ length journals.servers → AreBlocked journals order count → (IsNext journals order parts.Desk → ⊥) → (IsNext journals order parts.View → ⊥)
+    → IsDone journals order
+all_done journals order count is servers desk view (parts.Server server) next =
+    let split = map-some (λ (e : NodeEntry). steps.Node server e.ask) (server_entry journals server (suc (times order (parts.Server server)))) next.step next.is_there in
+    let found = chained (λ (es : List NodeEntry). item_at es (suc (times order (parts.Server server)))) (item_at journals.servers server) split.0 split.1 in
+    let above = item_above journals.servers server found.0 found.1 in
+    let within = slice_get_within journals.servers (server - 1) found.0 above.1 in
+    let at : server ≡ suc (server - 1) = omega (arith, above.0) in
+    servers (server - 1) (omega (arith, within, is)) (subst (λ (n : ℕ). IsNext journals order (parts.Server n)) at next)
+all_done journals order count is servers desk view parts.Desk next = desk next
+all_done journals order count is servers desk view parts.View next = view next

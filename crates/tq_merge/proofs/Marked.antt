@@ -12,11 +12,10 @@ use Rattle.std.proofs.lemmas.List.Sums.{count_by_more_yes, count_by_more_no, sum
 use Rattle.tq_shape.specs.Journal.{Has}
 use Rattle.tq_shape.specs.declared.part.Part.{Part}
 use Rattle.tq_shape.specs.declared.part.Part.TheVariants.{Server, Desk, View}
-use Rattle.tq_merge.specs.declared.name.EntryName.{EntryName}
-use Rattle.tq_merge.specs.EntryNames.{place_of, part_at, is_named, unnamed_count, unnamed_from, AreDifferent, IsTwice, IsWithin}
+use Rattle.tq_merge.specs.declared.claimed.EntryName.{EntryName}
+use Rattle.tq_merge.specs.Told.{place_of, part_at, is_named, unnamed_count, unnamed_from, AreDifferent, IsTwice, IsWithin}
 use Rattle.tq_merge.specs.Order.{same_part}
-use Rattle.tq_merge.proofs.LastNumbers.{splits}
-use Rattle.tq_merge.proofs.NamePlaces.{has_push, same_place, counted}
+use Rattle.tq_merge.proofs.LastNumbers.{splits, has_push, same_place, counted}
 use Rattle.tq_merge.proofs.Places.{same_part-is, same_part-refl}
 
 pub place-part_at : (place : ℕ) → place_of (part_at place) ≡ place

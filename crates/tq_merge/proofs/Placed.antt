@@ -16,16 +16,15 @@ use Rattle.tq_asks.specs.declared.ask.WorkAsk.TheVariants as work
 use Rattle.tq_tables.specs.Journals.{JournalsView, ViewEntry}
 use Rattle.tq_node.specs.NodeJournal.{NodeEntry}
 use Rattle.tq_desk.specs.DeskJournal.{DeskEntry}
-use Rattle.tq_world.specs.declared.answer.Step.{Step}
-use Rattle.tq_world.specs.declared.answer.Step.TheVariants as steps
-use Rattle.tq_world.specs.declared.citation.Citation.{Citation}
-use Rattle.tq_world.specs.World.{item_at, server_entry}
-use Rattle.tq_world.specs.Founded.{cited_in_work, unfounded_in_node_ask, unfounded_in_desk_ask}
-use Rattle.tq_merge.specs.Cited.{cited_in, cited_in_node_ask, entry_cited}
+use Rattle.tq_core.specs.declared.answer.Step.{Step}
+use Rattle.tq_core.specs.declared.answer.Step.TheVariants as steps
+use Rattle.tq_core.specs.declared.citation.Citation.{Citation}
+use Rattle.tq_core.specs.World.{item_at, server_entry}
+use Rattle.tq_core.specs.Founded.{cited_in_work, cited_in_node_ask, unfounded_in_node_ask, unfounded_in_desk_ask}
+use Rattle.tq_merge.specs.Placing.{cited_in, entry_cited, is_placed, is_citation_placed, is_placed_in_node_ask, is_ready, IsWanted, IsNextWanted, IsPlacing, sum_of, entries_left}
 use Rattle.tq_merge.specs.Order.{times, each_from, counts_of, placed_journals, step_at, unfounded_citation, IsNext}
-use Rattle.tq_merge.specs.Placing.{is_placed, is_citation_placed, is_placed_in_node_ask, is_ready, IsWanted, IsNextWanted, IsPlacing, sum_of, entries_left}
 use Rattle.tq_merge.proofs.Places.{times-more, times-same, times-other, item_at-suc, item_each, each_set, each_after, each_same, take_none}
-use Rattle.tq_world.proofs.Rooms.{item_above}
+use Rattle.tq_core.proofs.Journaled.{item_above}
 use Rattle.tq_merge.proofs.Founding.{cited_stands, entry_of_firsts, founded_whole, founded_cites, founded_firsts}
 use Rattle.tq_node.proofs.KeptLocks.{map-some}
 use Rattle.tq_merge.proofs.Runs.{chained, is_entry}
@@ -77,7 +76,7 @@ module _ (journals : JournalsView) (order : List Part) (servers : List ℕ) (cou
   work_numbers desk is (work.Refresh file version content from) ready c (inr none) = absurd none
   work_numbers desk is ask ready c has = absurd has
 
-  node_numbers : (desk : ℕ) → desk ≡ times order parts.Desk → (ask : NodeAsk) → is_placed_in_node_ask servers desk ask ≡ true → (c : Citation) → Has (cited_in_node_ask ask) c → c.number ≤ times order c.part
+  node_numbers : (desk : ℕ) → desk ≡ times order parts.Desk → (ask : NodeAsk) → is_placed_in_node_ask servers desk ask ≡ true → (c : Citation) → Has (option_to_list (cited_in_node_ask ask)) c → c.number ≤ times order c.part
   node_numbers desk is (node_asks.Work ask) ready c has = work_numbers desk is ask ready c has
   node_numbers desk is (node_asks.CrashIn after ask) ready c has = work_numbers desk is ask ready c has
   node_numbers desk is ask ready c has = absurd has

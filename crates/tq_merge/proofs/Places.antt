@@ -8,8 +8,8 @@ use Rattle.std.proofs.lemmas.Option.{slice_get_within, get_or_from_slice_get}
 use Rattle.std.proofs.lemmas.Bool.{eqb-true, eq-eqb, false≢true}
 use Rattle.tq_shape.specs.declared.part.Part.{Part}
 use Rattle.tq_shape.specs.declared.part.Part.TheVariants.{Server, Desk, View}
-use Rattle.tq_world.specs.World.{item_at}
-use Rattle.tq_world.proofs.Rooms.{item_above}
+use Rattle.tq_core.specs.World.{item_at}
+use Rattle.tq_core.proofs.Journaled.{item_above}
 use Rattle.tq_merge.specs.Order.{same_part, times, each_from}
 
 -- ---- parts

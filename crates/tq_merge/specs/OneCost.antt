@@ -19,7 +19,7 @@ use Rattle.tq_tables.specs.Journals.{JournalsView, ViewEntry}
 use Rattle.tq_tables.specs.Parts.{AreLegalServers, bounds_of}
 use Rattle.tq_merge.specs.Order.{times, entries_of, counts_of, ArePlaced, IsNext, Explains, IsStuck}
 use Rattle.tq_merge.specs.Wrong.{IsFirstWrong, IsWrong}
-use Rattle.tq_merge.specs.declared.counts.Counts.{Counts}
+use Rattle.tq_merge.specs.declared.fault.Counts.{Counts}
 
 -- ---- least cost
 

@@ -1,18 +1,44 @@
--- What is kept while entries are placed.
-use Rattle.std.specs.Prelude.{◌≡◌, ◌≤◌, ◌&&◌, ◌+◌, ◌-◌, ℕ, suc, Bool, true, false, nat_le, is_none, List, [], ◌∷◌, map, length, take, Some}
-use Rattle.std.specs.Option.{option_map_or}
-use Rattle.tq_shape.specs.Journal.{Has}
-use Rattle.tq_shape.specs.declared.part.Part.{Part}
+-- The citations of an ask. What is kept while entries are placed.
+use Rattle.std.specs.Prelude.{List, [], ◌∷◌, ◌++◌, map, ◌≡◌, ◌≤◌, ◌&&◌, ◌+◌, ◌-◌, ℕ, suc, Bool, true, false, nat_le, is_none, length, take, Some}
+use Rattle.std.specs.Option.{option_to_list, option_map_or}
 use Rattle.tq_shape.specs.declared.part.Part.TheVariants.{Server, Desk, View}
 use Rattle.tq_asks.specs.declared.ask.CitedVote.{CitedVote}
+use Rattle.tq_desk.specs.declared.ask.DeskAsk.{DeskAsk}
+use Rattle.tq_desk.specs.declared.ask.DeskAsk.TheVariants as desk_asks
+use Rattle.tq_evidence.specs.declared.op.Op.{Op}
+use Rattle.tq_core.specs.declared.answer.Step.{Step}
+use Rattle.tq_core.specs.declared.answer.Step.TheVariants as steps
+use Rattle.tq_core.specs.declared.citation.Citation.{Citation}
+use Rattle.tq_core.specs.Founded.{cited_grant, cited_vote, cited_in_node_ask, unfounded_in_desk_ask, unfounded_in_node_ask}
+use Rattle.tq_shape.specs.Journal.{Has}
+use Rattle.tq_shape.specs.declared.part.Part.{Part}
 use Rattle.tq_asks.specs.declared.ask.NodeAsk.{NodeAsk}
 use Rattle.tq_tables.specs.Journals.{JournalsView}
 use Rattle.tq_desk.specs.DeskJournal.{DeskEntry}
-use Rattle.tq_world.specs.World.{item_at}
-use Rattle.tq_world.specs.declared.citation.Citation.{Citation}
-use Rattle.tq_world.specs.Founded.{cited_in_node_ask, unfounded_in_desk_ask, unfounded_in_node_ask}
-use Rattle.tq_merge.specs.Cited.{cited_in_desk_ask, entry_cited}
+use Rattle.tq_core.specs.World.{item_at}
 use Rattle.tq_merge.specs.Order.{times, each_from, counts_of, IsNext, ArePlaced}
+
+-- those of ops: their grants, op by op
+abbrev pub cited_in_ops : List Op → List Citation
+cited_in_ops [] = []
+cited_in_ops (op ∷ ops) = map cited_grant op.grants ++ cited_in_ops ops
+
+-- those of a desk's ask: of a Commit the grants and then the votes
+abbrev pub cited_in_desk_ask : DeskAsk → List Citation
+cited_in_desk_ask (desk_asks.Commit txn ops votes) = cited_in_ops ops ++ map cited_vote votes
+cited_in_desk_ask ask = []
+
+-- those of a step; a server's ask has one or none
+abbrev pub cited_in : Step → List Citation
+cited_in (steps.Node server ask) = option_to_list (cited_in_node_ask ask)
+cited_in (steps.Desk ask) = cited_in_desk_ask ask
+cited_in (steps.View ask) = []
+
+-- the citation of an entry of a server
+abbrev pub entry_cited : CitedVote → Citation
+entry_cited entry = record { part = Server entry.server; number = entry.number }
+
+-- ---- placing
 
 -- the journals, and the order of the entries placed so far
 pub record PlacingView : Type 0 where

@@ -1,15 +1,14 @@
 //! What a desk's ask cites.
 ghost use Rattle.std.specs.Prelude.{◌≡◌, ◌++◌, map, IfOk, OnOk};
-ghost use Rattle.tq_merge.specs.Cited as spec;
-ghost use Rattle.tq_merge.specs.Placing as kept;
-ghost use Rattle.tq_world.specs.Founded.{cited_grant, cited_vote};
+ghost use Rattle.tq_merge.specs.Placing as spec;
+ghost use Rattle.tq_core.specs.Founded.{cited_grant, cited_vote};
 
 use std::alloc::Global;
 use tq_asks::CitedVote;
+use tq_core::unfounded_in_desk_ask;
 use tq_desk::{DeskAsk, Grant, Op, Vote};
 use tq_shape::Memory;
 use tq_tables::Journals;
-use tq_world::unfounded_in_desk_ask;
 
 /// Appends the entries that the grants cite.
 fn push_grants(wanted: &mut Vec<CitedVote>, grants: &[Grant]) -> Result<(), Memory>
@@ -77,7 +76,7 @@ pub(crate) struct Wanted {
 /// What the desk's next entry cites, where so many are placed.
 pub(crate) fn wanted_at(alloc: Global, journals: &Journals, placed: u64) -> Result<Wanted, Memory>
     ensures { IfOk result (λ wanted.
-        kept.IsNextWanted journals.now placed wanted.stands wanted.entries.items) }
+        spec.IsNextWanted journals.now placed wanted.stands wanted.entries.items) }
 {
     match journals.desk().get(placed as usize) {
         None => Ok(Wanted {

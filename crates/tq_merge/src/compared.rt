@@ -1,13 +1,11 @@
 //! What callers were told, compared with journals.
 
 ghost use Rattle.std.specs.Prelude.{◌≡◌, IfOk};
-ghost use Rattle.tq_merge.specs.Kept.{IsCompared};
+ghost use Rattle.tq_merge.specs.Told.{IsCompared};
 
-use crate::claimed::{Claimed, claim};
+use crate::claimed::{Claimed, EntryName, claim, first_fallen};
 use crate::lengths::counts;
-use crate::name::EntryName;
 use crate::names::{Names, names_told};
-use crate::rising::first_fallen;
 use std::alloc::Global;
 use tq_shape::{Memory, Seq};
 use tq_tables::Journals;

@@ -3,10 +3,10 @@
 ghost use Rattle.std.specs.Prelude.{◌≡◌, IfOk};
 ghost use Rattle.tq_merge.specs.Told.{found_at, node_found, desk_found, view_found};
 
-use crate::name::EntryName;
+use crate::claimed::EntryName;
+use tq_core::{CitedEntries, Reply, Step, item_at};
 use tq_shape::{Entry, Memory, Part};
 use tq_tables::{DeskEntry, Journals, NodeEntry, ViewEntry};
-use tq_world::{CitedEntries, Reply, Step, item_at};
 
 /// An entry of a server, whose part its ask and its reply name.
 fn of_server(server: u64, entry: &NodeEntry) -> Result<Entry<Step, Reply>, Memory>

@@ -1,7 +1,7 @@
 //! The lengths of journals.
 
 ghost use Rattle.std.specs.Prelude.{◌≡◌, ◌≤◌, All, IfOk, vec_len};
-ghost use Rattle.tq_merge.specs.Told.{counts_of};
+ghost use Rattle.tq_merge.specs.Told.{entry_counts};
 
 use std::alloc::Global;
 use tq_shape::Memory;
@@ -9,7 +9,7 @@ use tq_tables::Journals;
 
 /// How many entries the desk, the view and each server have, upwards from server 0, of which there is none.
 pub(crate) fn counts(alloc: Global, journals: &Journals) -> Result<Vec<u64>, Memory>
-    ensures value { IfOk result (λ counts. counts.items ≡ counts_of journals.now) }
+    ensures value { IfOk result (λ counts. counts.items ≡ entry_counts journals.now) }
     ensures few { IfOk result (λ counts. vec_len counts ≤ 1048576) }
     ensures short { IfOk result (λ counts. All (λ count. count ≤ 1000000) counts.items) }
 {

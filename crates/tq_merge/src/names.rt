@@ -3,9 +3,9 @@
 ghost use Rattle.std.specs.Prelude.{◌≡◌, IfOk};
 ghost use Rattle.std.specs.Option.{option_to_list};
 ghost use Rattle.tq_merge.specs.Told as spec;
-ghost use Rattle.tq_merge.specs.Names.{AreNames};
+ghost use Rattle.tq_merge.specs.Told.{AreNames};
 
-use crate::name::EntryName;
+use crate::claimed::EntryName;
 use crate::told_stands::stands;
 use std::alloc::Global;
 use tq_shape::{Memory, Part};

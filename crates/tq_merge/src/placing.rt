@@ -13,9 +13,9 @@ use crate::waiting::Waiting;
 use std::alloc::Global;
 use std::marker::Model;
 use tq_asks::CitedVote;
+use tq_core::Citation;
 use tq_shape::{Memory, Part, Seq};
 use tq_tables::{Journals, NodeEntry};
-use tq_world::Citation;
 
 /// What is placed of journals, and in which order.
 #[derive(Drop)]

@@ -5,9 +5,9 @@ ghost use Rattle.tq_asks.specs.declared.ask.CitedVote.{CitedVote};
 ghost use Rattle.tq_merge.specs.Placing as spec;
 
 use tq_asks::{CitedVote, NodeAsk};
+use tq_core::{Citation, cited_in_node_ask, item_at, unfounded_in_node_ask};
 use tq_shape::Part;
 use tq_tables::Journals;
-use tq_world::{Citation, cited_in_node_ask, item_at, unfounded_in_node_ask};
 
 /// Whether an entry of a server is placed, where so many of each server are.
 pub(crate) fn is_placed(counts: &[u64], entry: CitedVote) -> bool

@@ -5,27 +5,22 @@ ghost use Rattle.std.specs.Option.{option_copied};
 ghost use Rattle.tq_shape.specs.Journal.{entry};
 ghost use Rattle.tq_merge.specs.Told.{Stands};
 
-use tq_equality::{Alike, OfDesk, OfServer, OfView};
+use tq_core::{CitedEntries, item_at};
 use tq_shape::Entry;
-use tq_tables::Journals;
+use tq_tables::{Journals, Same};
 use tq_txn::Exchange;
-use tq_world::{CitedEntries, item_at};
 
 /// Whether there is an entry, with this ask and this reply.
-fn is_entry<P: Alike>(
-    found: Option<&Entry<P::Ask, P::Reply>>,
-    ask: &P::Ask,
-    reply: &P::Reply,
-) -> bool
+fn is_entry<A: Same, R: Same>(found: Option<&Entry<A, R>>, ask: &A, reply: &R) -> bool
     ensures { IsTrue result ↔ (option_copied found.entry ≡ Some (entry ask.now reply.now)) }
 {
     let Some(there) = found else {
         return false;
     };
-    if !P::is_same_ask(&there.ask, ask) {
+    if !there.ask.is_same(ask) {
         return false;
     }
-    P::is_same_reply(&there.reply, reply)
+    there.reply.is_same(reply)
 }
 
 /// Whether what was told stands in the journal of its part, under its number.
@@ -38,7 +33,7 @@ pub(crate) fn stands(journals: &Journals, exchange: &Exchange) -> bool
             ask,
             answer,
         } => match answer {
-            Ok(told) => is_entry::<OfServer>(
+            Ok(told) => is_entry(
                 journals.server_entry(*server, told.number),
                 ask,
                 &told.reply,
@@ -46,11 +41,11 @@ pub(crate) fn stands(journals: &Journals, exchange: &Exchange) -> bool
             Err(_) => true,
         },
         Exchange::Desk { ask, answer } => match answer {
-            Ok(told) => is_entry::<OfDesk>(journals.desk_entry(told.number), ask, &told.reply),
+            Ok(told) => is_entry(journals.desk_entry(told.number), ask, &told.reply),
             Err(_) => true,
         },
         Exchange::View { ask, answer } => match answer {
-            Ok(told) => is_entry::<OfView>(item_at(journals.view(), told.number), ask, &told.reply),
+            Ok(told) => is_entry(item_at(journals.view(), told.number), ask, &told.reply),
             Err(_) => true,
         },
     }

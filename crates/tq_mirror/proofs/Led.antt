@@ -1,12 +1,25 @@
--- Entries that a part gives where it stands.
-use Rattle.std.proofs.Common.{◌≡◌, ◌≤◌, ◌<◌, ◌+◌, ℕ, zero, suc, List, [], ◌∷◌, ◌++◌, length, take, get_or, sym, ◌∙◌, ap, subst, arith}
-use Rattle.std.proofs.lemmas.List.{take_all, take_more}
-use Rattle.tq_shape.specs.declared.entry.Entry.{Entry}
-use Rattle.tq_shape.specs.Journal.{entry, state_from, IsLegalFrom}
-use Rattle.tq_part.proofs.OneMore.{legal-snoc}
+-- Servers whose journals begin with what was pulled of them. Entries that a part gives where it stands.
+use Rattle.std.proofs.Common.{◌≡◌, ◌+◌, ◌⊎◌, ℕ, subst, sym, inl, inr, arith, ◌≤◌, ◌<◌, zero, suc, List, [], ◌∷◌, ◌++◌, length, take, get_or, ◌∙◌, ap}
+use Rattle.std.proofs.lemmas.Bool.{cases_eq}
+use Rattle.tq_tables.specs.Same.{Begins}
 use Rattle.tq_tables.specs.Journals.{JournalsView}
+use Rattle.tq_mirror.specs.Prefixes.{server_prefix, ServersBegin}
+use Rattle.std.proofs.lemmas.List.{take_all, take_more}
+use Rattle.tq_shape.specs.declared.part.Entry.{Entry}
+use Rattle.tq_shape.specs.Journal.{entry, state_from, IsLegalFrom}
+use Rattle.tq_shape.proofs.Places.{legal-snoc}
 use Rattle.tq_tables.specs.Parts.{AreLegal}
 use Rattle.tq_tables.specs.Tables.{TablesView, tables_of}
+
+-- one server more begins so
+pub one_begins : (prefixes journals : JournalsView) (place : ℕ) → ServersBegin prefixes journals (place + 1) → Begins (server_prefix prefixes (place + 1)) (server_prefix journals (place + 1)) → ServersBegin prefixes journals (place + 1 + 1)
+one_begins prefixes journals place so_far next number least below = by (cases_eq number (place + 1))
+  where
+    by : (number ≡ place + 1) ⊎ (number ≡ place + 1 → ⊥) → Begins (server_prefix prefixes number) (server_prefix journals number)
+    by (inl same) = subst (λ (n : ℕ). Begins (server_prefix prefixes n) (server_prefix journals n)) (sym same) next
+    by (inr apart) = so_far number least (omega (arith, apart, below))
+
+-- ---- led
 
 module _ {S A R : Type 0} (reply : S → ℕ → A → R) (after : S → ℕ → A → S) where
   -- the part after two lists of entries

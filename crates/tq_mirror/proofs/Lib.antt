@@ -1,3 +1,2 @@
 pub mod Led
 pub mod Standing
-pub mod Begun

@@ -23,19 +23,16 @@ use Rattle.tq_desk.specs.DeskJournal.{DeskEntry, IsLegalDesk, step_reply, step_a
 use Rattle.tq_live.specs.Live.{Live}
 use Rattle.tq_live.specs.View.{IsLegalView, view_state, view_reply, view_reply_at, view_after_at}
 use Rattle.tq_live.proofs.Journal.{replays}
-use Rattle.tq_tables.proofs.Replayed.{answered-push}
+use Rattle.tq_tables.proofs.RowLaws.{answered-push}
 use Rattle.tq_tables.proofs.Restood.{is_there, node_in-at, node_is}
-use Rattle.tq_tables.specs.Asked.{MayAskDesk, MayAskNode, node_in}
+use Rattle.tq_tables.specs.Tables.{MayAskDesk, MayAskNode, node_in, entries_of, with_node, TablesView, tables_of}
 use Rattle.tq_tables.specs.Journals.{JournalsView, ViewEntry, with_desk, with_view}
-use Rattle.tq_tables.specs.NextOfServer.{entries_of, with_node}
 use Rattle.tq_tables.specs.Parts.{AreLegal, AreLegalServers, bounds_of, node_after_all, desk_at, view_at}
-use Rattle.tq_tables.specs.Tables.{TablesView, tables_of}
 use Rattle.tq_mirror.specs.declared.entries.Entries.{Entries}
 use Rattle.tq_mirror.specs.declared.entries.Entries.TheVariants as entries
 use Rattle.tq_mirror.specs.declared.fault.PullFault.{PullFault}
-use Rattle.tq_mirror.specs.Prefixes.{GivesNext, IsForeign, IsPartOf, IsPullFault, IsTaken, count_of, nothing_pulled, prefix_length, server_prefix, journals_with}
+use Rattle.tq_mirror.specs.Prefixes.{GivesNext, IsForeign, IsPartOf, IsPullFault, IsTaken, count_of, nothing_pulled, prefix_length, server_prefix, journals_with, AreAhead, AreKept, AreLed}
 use Rattle.tq_tables.specs.Tabled.{journals_in}
-use Rattle.tq_mirror.specs.Kept.{AreAhead, AreKept, AreLed}
 use Rattle.tq_mirror.proofs.Led.{Grows, Led, legal-joined, state-joined}
 
 -- ---- legal journals of servers

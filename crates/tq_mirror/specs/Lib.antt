@@ -1,3 +1,1 @@
 pub mod Prefixes
-pub mod Kept
-pub mod Astray

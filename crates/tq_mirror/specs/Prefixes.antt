@@ -1,5 +1,6 @@
--- What was pulled of the journals of a system: of each part the first entries. They are seen as journals.
-use Rattle.std.specs.Prelude.{◌≡◌, ◌<◌, ◌≤◌, ◌⊎◌, ℕ, ◌+◌, ◌-◌, List, [], ◌++◌, length, get_or, set, ⊤, Result, OnOk, OnErr, IfErr}
+-- What was pulled of the journals of a system: of each part the first entries. They are seen as journals. What is kept
+-- of the parts: their entries, and beside them the tables. Whether journals begin with what was pulled of them.
+use Rattle.std.specs.Prelude.{◌≡◌, ◌<◌, ◌≤◌, ◌⊎◌, ℕ, ◌+◌, ◌-◌, List, [], ◌++◌, length, get_or, set, ⊤, Result, OnOk, OnErr, IfErr, ◌^◌, Option, MatchOption}
 use Rattle.tq_shape.specs.Tree.{IsServer}
 use Rattle.tq_shape.specs.Limits.{LimitsView}
 use Rattle.tq_shape.specs.Journal.{IsLegalFrom}
@@ -12,11 +13,13 @@ use Rattle.tq_node.specs.NodeJournal.{NodeEntry}
 use Rattle.tq_desk.specs.DeskJournal.{step_reply, step_after}
 use Rattle.tq_live.specs.View.{view_reply_at, view_after_at}
 use Rattle.tq_tables.specs.Journals.{JournalsView, no_entries}
-use Rattle.tq_tables.specs.Parts.{node_after_all, desk_at, view_at}
+use Rattle.tq_tables.specs.Parts.{node_after_all, desk_at, view_at, AreLegal}
 use Rattle.tq_mirror.specs.declared.entries.Entries.{Entries}
 use Rattle.tq_mirror.specs.declared.entries.Entries.TheVariants as entries
 use Rattle.tq_mirror.specs.declared.fault.PullFault.{PullFault}
 use Rattle.tq_mirror.specs.declared.fault.PullFault.TheVariants as faults
+use Rattle.tq_tables.specs.Tables.{TablesView, tables_of}
+use Rattle.tq_tables.specs.Same.{Begins}
 
 -- nothing was pulled of any part of a system
 abbrev pub nothing_pulled : ℕ → LimitsView → JournalsView
@@ -77,3 +80,78 @@ pub record IsTaken {T : Type 0} (old new : JournalsView) (part : Part) (more : E
   pub count : OnOk result (prefix_length new part ≡ prefix_length old part + count_of more)
   pub err : OnErr result (new ≡ old)
   pub fault : IfErr result (IsPullFault old part more enough)
+
+-- ---- kept
+
+-- there are entries for each server of the tree, the journals that have them alone are legal, and the tables are theirs
+pub record AreKept (tables : TablesView) (prefixes : JournalsView) : Type 0 where
+  pub one_each : length prefixes.servers + 1 ≡ 2 ^ prefixes.levels
+  pub legal : AreLegal prefixes
+  pub stand : tables ≡ tables_of prefixes
+
+-- the part gives these entries next, with them there are that many at least, and the tables are those with them
+pub record AreAhead (tables : TablesView) (prefixes : JournalsView) (part : Part) (more : Entries) (least : ℕ) : Type 0 where
+  pub gives : GivesNext prefixes part more
+  pub enough : least ≤ prefix_length prefixes part + count_of more
+  pub stand : tables ≡ tables_of (journals_with prefixes part more)
+
+-- these tables came of the entries that the part gives next; or none, where it gives others
+abbrev pub AreLed : Option TablesView → JournalsView → Part → Entries → Type 0
+AreLed found prefixes part more = MatchOption found (GivesNext prefixes part more → ⊥) (λ tables. AreAhead tables prefixes part more 0)
+
+-- they are the tables over prefixes with so many entries of the server, which can be counted with so many more
+pub record ServerMayFollow (tables : TablesView) (number known more : ℕ) : Type 0 where
+  pub prefixes : JournalsView
+  pub kept : AreKept tables prefixes
+  pub there : IsServer prefixes.levels number
+  pub count : known ≡ length (server_prefix prefixes number)
+  pub few : known + more < 2 ^ 64
+
+-- they are the tables over prefixes with entries of the desk that can be counted with so many more
+pub record DeskMayFollow (tables : TablesView) (more : ℕ) : Type 0 where
+  pub prefixes : JournalsView
+  pub kept : AreKept tables prefixes
+  pub few : length prefixes.desk + more < 2 ^ 64
+
+-- ---- astray
+
+-- the journal of the part begins with what was pulled of it
+abbrev pub PartBegins : JournalsView → JournalsView → Part → Type 0
+PartBegins prefixes journals (parts.Server number) = Begins (server_prefix prefixes number) (server_prefix journals number)
+PartBegins prefixes journals parts.Desk = Begins prefixes.desk journals.desk
+PartBegins prefixes journals parts.View = Begins prefixes.view journals.view
+
+-- that of each part does: these are prefixes of the journals
+abbrev pub AllBegin : JournalsView → JournalsView → Type 0
+AllBegin prefixes journals = (part : Part) → IsPartOf prefixes.levels part → PartBegins prefixes journals part
+
+-- the one part comes before the other: servers upwards, then the desk, then the view
+abbrev pub ComesBefore : Part → Part → Type 0
+ComesBefore (parts.Server one) (parts.Server other) = one < other
+ComesBefore (parts.Server one) parts.Desk = ⊤
+ComesBefore (parts.Server one) parts.View = ⊤
+ComesBefore parts.Desk parts.View = ⊤
+ComesBefore one other = ⊥
+
+-- it is a part whose journal does not begin so, and those of all parts before it do
+pub record IsFirstAstray (prefixes journals : JournalsView) (part : Part) : Type 0 where
+  pub is_part : IsPartOf prefixes.levels part
+  pub astray : PartBegins prefixes journals part → ⊥
+  pub first : (before : Part) → IsPartOf prefixes.levels before → ComesBefore before part → PartBegins prefixes journals before
+
+-- ---- of servers alone
+
+-- those below that number do
+abbrev pub ServersBegin : JournalsView → JournalsView → ℕ → Type 0
+ServersBegin prefixes journals past = (number : ℕ) → 0 < number → number < past → Begins (server_prefix prefixes number) (server_prefix journals number)
+
+-- all of them do
+abbrev pub AllServersBegin : JournalsView → JournalsView → Type 0
+AllServersBegin prefixes journals = ServersBegin prefixes journals (2 ^ prefixes.levels)
+
+-- it is the first server whose journal does not
+abbrev pub IsServerAstray : JournalsView → JournalsView → ℕ → Type 0
+IsServerAstray prefixes journals number =
+    IsServer prefixes.levels number
+    × (Begins (server_prefix prefixes number) (server_prefix journals number) → ⊥)
+    × ServersBegin prefixes journals number

@@ -2,13 +2,11 @@
 ghost use Rattle.std.specs.Prelude.{◌≡◌, ◌^◌, MatchOption};
 ghost use Rattle.tq_shape.specs.Tree.{IsServer};
 ghost use Rattle.tq_tables.specs.Parts.{AreLegal};
-ghost use Rattle.tq_mirror.specs.Prefixes.{server_prefix};
-ghost use Rattle.tq_mirror.specs.Astray.{AllBegin, AllServersBegin, IsFirstAstray, IsServerAstray};
+ghost use Rattle.tq_mirror.specs.Prefixes.{server_prefix, AllBegin, AllServersBegin, IsFirstAstray, IsServerAstray};
 
 use crate::prefixes::Prefixes;
-use tq_equality::{OfDesk, OfServer, OfView, begins};
 use tq_shape::Part;
-use tq_tables::{Journals, NodeEntry};
+use tq_tables::{Journals, NodeEntry, begins};
 
 /// The entries of the server of that number.
 fn server_entries(journals: &Journals, number: u64) -> &[NodeEntry]
@@ -32,10 +30,10 @@ impl Prefixes {
         if let Some(number) = self.first_server_astray(journals) {
             return Some(Part::Server(number));
         }
-        if !begins::<OfDesk>(self.desk(), journals.desk()) {
+        if !begins(self.desk(), journals.desk()) {
             return Some(Part::Desk);
         }
-        if !begins::<OfView>(self.view(), journals.view()) {
+        if !begins(self.view(), journals.view()) {
             return Some(Part::View);
         }
         None
@@ -49,7 +47,7 @@ impl Prefixes {
     {
         for place in 0..journals.levels().servers() {
             let number = place + 1;
-            if !begins::<OfServer>(self.server(number), server_entries(journals, number)) {
+            if !begins(self.server(number), server_entries(journals, number)) {
                 return Some(number);
             }
         }

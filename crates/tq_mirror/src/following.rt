@@ -2,15 +2,13 @@
 ghost use Rattle.std.specs.Prelude.{◌≡◌, ◌+◌, ◌<◌, ◌≤◌, ◌^◌, ◌↔◌, length, IsTrue, IfOk, MatchOption};
 ghost use Rattle.tq_shape.specs.Tree.{IsServer};
 ghost use Rattle.tq_tables.specs.Journals.{JournalsView};
-ghost use Rattle.tq_mirror.specs.Kept.{AreAhead, AreKept, AreLed, DeskMayFollow, ServerMayFollow};
-ghost use Rattle.tq_mirror.specs.Prefixes.{IsForeign, server_prefix};
+ghost use Rattle.tq_mirror.specs.Prefixes.{AreAhead, AreKept, AreLed, DeskMayFollow, ServerMayFollow, IsForeign, server_prefix};
 
 use crate::entries::Entries;
 use crate::prefixes::Prefixes;
 use std::alloc::Global;
-use tq_equality::Same;
 use tq_shape::{Memory, Part};
-use tq_tables::{DeskEntry, NodeEntry, Tables, ViewEntry};
+use tq_tables::{DeskEntry, NodeEntry, Same, Tables, ViewEntry};
 
 impl Prefixes {
     /// The tables once the server of that number was asked what these entries ask, as `ahead_of_desk` those of the desk.

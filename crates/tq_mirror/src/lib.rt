@@ -1,7 +1,7 @@
 //! What was pulled of the journals of a system: of each part the first entries, and the tables over them. It is plain
 //! data: nothing here asks a part.
 //!
-//! Definitions: `specs/Prefixes`, `Astray`; `Kept` is the code's own word.
+//! Definitions: `specs/Prefixes`.
 #![tactic(auto)]
 
 mod astray;

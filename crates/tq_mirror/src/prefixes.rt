@@ -4,8 +4,7 @@ ghost use Rattle.std.specs.Prelude.{◌≡◌, ◌<◌, ◌^◌, ◌++◌, lengt
 ghost use Rattle.tq_shape.specs.Tree.{IsServer};
 ghost use Rattle.tq_tables.specs.Parts.{AreLegal};
 ghost use Rattle.tq_tables.specs.Tables.{tables_of};
-ghost use Rattle.tq_mirror.specs.Kept.{AreKept};
-ghost use Rattle.tq_mirror.specs.Prefixes.{IsTaken, nothing_pulled, server_prefix};
+ghost use Rattle.tq_mirror.specs.Prefixes.{AreKept, IsTaken, nothing_pulled, server_prefix};
 
 use crate::entries::Entries;
 use crate::fault::PullFault;
@@ -41,7 +40,7 @@ impl Model for Prefixes {
     ghost use Rattle.std.specs.Prelude.{◌≡◌, IfSome};
     ghost use Rattle.tq_tables.specs.Journals.{JournalsView};
     ghost use Rattle.tq_tables.specs.Tabled.{journals_of};
-    ghost use Rattle.tq_mirror.specs.Kept.{AreKept};
+    ghost use Rattle.tq_mirror.specs.Prefixes.{AreKept};
 
     ghost Value = { JournalsView };
 

@@ -1,16 +1,89 @@
--- The copy of a file after writes are installed.
+-- Look-ups in finite maps whose keys are told apart by their order. The copy of a file after writes are installed.
+-- Copies that a server's step leaves.
+use Rattle.std.proofs.Common.{◌≡◌, ◌≢◌, Bool, true, false, cond, Option, Some, None, sym, ap, ◌∙◌, ◌⊎◌, inl, inr, ℕ, ◌≤◌, ◌<◌, List, [], ◌∷◌, refl, subst, arith, map}
+use Rattle.std.proofs.lemmas.Bool.{cases_Bool, cond-true, cond-false, true≢false, ltb-true, ltb-false, or_parts}
+use Rattle.std.proofs.lemmas.Cmp.{tied_itself, nat_list_cmp_total}
+use Rattle.std.specs.Cmp.{IsTotalOrder}
+use Rattle.std.specs.FinMap as fin
+use Rattle.std.specs.FinMap.{FinMap, IsAntisymmetric, nat_cmp-IsAntisymmetric, slice_cmp-IsAntisymmetric}
+use Rattle.std.specs.Ordering.{is_eq, eq_by_cmp}
+use Rattle.std.specs.declared.cmp.Ordering.{Ordering}
+use Rattle.tq_shape.proofs.Places.{Some-same}
+use Rattle.tq_shape.proofs.Options.{is_eq-Equal}
 use Rattle.std.specs.Prelude.{nat_lt}
-use Rattle.std.proofs.Common.{◌≡◌, ℕ, ◌≤◌, ◌<◌, List, [], ◌∷◌, refl, sym, ap, subst, ◌∙◌, ◌⊎◌, inl, inr, arith}
-use Rattle.std.proofs.lemmas.Bool.{cases_Bool, ltb-true, ltb-false}
-use Rattle.std.proofs.lemmas.Cmp.{nat_list_cmp_total}
-use Rattle.std.specs.FinMap.{IsAntisymmetric, nat_cmp-IsAntisymmetric, slice_cmp-IsAntisymmetric}
 use Rattle.tq_shape.specs.Journal.{Has}
 use Rattle.tq_store.specs.Copies.{Files, name_cmp, copy_of, copy_in, copies_after_install, installed_all}
 use Rattle.tq_store.specs.declared.copies.FileCopy.{FileCopy}
 use Rattle.tq_store.specs.declared.write.Write.{Write}
-use Rattle.tq_store.proofs.Installed.{Installs-installed, rises-installed, rises-installed_all}
+use Rattle.tq_store.proofs.Installed.{Installs-installed, rises-installed, rises-installed_all, rises_then}
 use Rattle.tq_node.specs.NodeJournal.{HasWrite}
-use Rattle.tq_node.proofs.Maps.{key_cases}
+use Rattle.std.specs.List.{AllByRecursion, list_any}
+use Rattle.tq_store.specs.Names.{same_name}
+use Rattle.tq_store.proofs.Padded.{same_name-refl}
+use Rattle.tq_asks.specs.declared.ask.NodeAsk.{NodeAsk}
+use Rattle.tq_node.specs.NodeChanges.{records_after_step}
+use Rattle.tq_node.specs.Telling.{AreReached, KeepsOthers, raised_files, step_raises}
+use Rattle.tq_node.specs.Records.{Records}
+use Rattle.tq_node.specs.declared.change.NodeStep.{NodeStep}
+use Rattle.tq_node.specs.declared.change.NodeStep.TheVariants as steps
+
+module _ {K : Type 0} {R : K → K → Ordering} (o : IsTotalOrder R) where
+  tied-true : (q : K) → eq_by_cmp R q q ≡ true
+  tied-true q = ap is_eq (tied_itself o q)
+
+  pub key_cases : IsAntisymmetric R → (q k : K) → ((q ≡ k) × (eq_by_cmp R q k ≡ true)) ⊎ ((q ≢ k) × (eq_by_cmp R q k ≡ false))
+  key_cases same q k =
+      elim (cases_Bool (eq_by_cmp R q k)) [
+        | inl t ↦ inl (same q k (is_eq-Equal (R q k) t), t)
+        | inr f ↦ inr ((λ e. true≢false (sym (tied-true q) ∙ ap (λ (x : K). eq_by_cmp R q x) e ∙ f)), f)
+      ]
+
+module _ {K X : Type 0} {R : K → K → Ordering} (o : IsTotalOrder R) (same : IsAntisymmetric R) where
+  pub insert-same : (m : FinMap R X) (k : K) (v : X) → fin.get (fin.insert m k v) k ≡ Some v
+  insert-same m k v = fin.get-insert o m k v k ∙ cond-true (eq_by_cmp R k k) (Some v) (fin.get m k) (ap is_eq (tied_itself o k))
+
+  pub insert-other : (m : FinMap R X) (k : K) (v : X) (q : K) → q ≢ k → fin.get (fin.insert m k v) q ≡ fin.get m q
+  insert-other m k v q ne =
+      elim (key_cases o same q k) [
+        | inl p ↦ absurd (ne p.0)
+        | inr p ↦ fin.get-insert o m k v q ∙ cond-false (eq_by_cmp R q k) (Some v) (fin.get m q) p.1
+      ]
+
+  pub insert-cases : (m : FinMap R X) (k : K) (v : X) (q : K) (x : X) → fin.get (fin.insert m k v) q ≡ Some x → ((q ≡ k) × (v ≡ x)) ⊎ ((q ≢ k) × (fin.get m q ≡ Some x))
+  insert-cases m k v q x h =
+      elim (key_cases o same q k) [
+        | inl p ↦ inl (p.0, Some-same (sym (insert-same m k v) ∙ ap (fin.get (fin.insert m k v)) (sym p.0) ∙ h))
+        | inr p ↦ inr (p.0, sym (insert-other m k v q p.0) ∙ h)
+      ]
+
+  pub remove-other : (m : FinMap R X) (k q : K) → q ≢ k → fin.get (fin.remove m k) q ≡ fin.get m q
+  remove-other m k q ne =
+      elim (key_cases o same q k) [
+        | inl p ↦ absurd (ne p.0)
+        | inr p ↦ fin.get-remove o m k q ∙ cond-false (eq_by_cmp R q k) None (fin.get m q) p.1
+      ]
+
+  pub remove-cases : (m : FinMap R X) (k q : K) (x : X) → fin.get (fin.remove m k) q ≡ Some x → (q ≢ k) × (fin.get m q ≡ Some x)
+  remove-cases m k q x h =
+      elim (key_cases o same q k) [
+        | inl p ↦ let n : Path (Option X) None (Some x) = sym (fin.get-remove o m k q ∙ cond-true (eq_by_cmp R q k) None (fin.get m q) p.1) ∙ h in absurd cc
+        | inr p ↦ (p.0, sym (remove-other m k q p.0) ∙ h)
+      ]
+
+  get-retain : (m : FinMap R X) (p : K → Bool) (q : K) → fin.get (fin.retain_keys m p) q ≡ cond (p q) (fin.get m q) None
+  get-retain m p q = fin.get-retain_keys m p q (λ x t. ap p (sym (same q x t)))
+
+  pub retain-in : (m : FinMap R X) (p : K → Bool) (q : K) → p q ≡ true → fin.get (fin.retain_keys m p) q ≡ fin.get m q
+  retain-in m p q t = get-retain m p q ∙ cond-true (p q) (fin.get m q) None t
+
+  pub retain-from : (m : FinMap R X) (p : K → Bool) (q : K) (x : X) → fin.get (fin.retain_keys m p) q ≡ Some x → fin.get m q ≡ Some x
+  retain-from m p q x h =
+      elim (cases_Bool (p q)) [
+        | inl t ↦ sym (retain-in m p q t) ∙ h
+        | inr f ↦ let n : Path (Option X) None (Some x) = sym (get-retain m p q ∙ cond-false (p q) (fin.get m q) None f) ∙ h in absurd cc
+      ]
+
+-- ---- installed
 
 name_same : IsAntisymmetric name_cmp
 name_same = slice_cmp-IsAntisymmetric nat_cmp-IsAntisymmetric
@@ -80,3 +153,52 @@ all-cases (w ∷ ws) files f =
           let b = r.0 in
           inr (omega arith, record { is_there = inr (r.1).is_there })
     ]
+
+-- ---- untouched
+
+other-installed : (files : Files) (name : List ℕ) (copy : FileCopy) (other : List ℕ) → same_name other name ≡ false → copy_of (copies_after_install files name copy) other ≡ copy_of files other
+other-installed files name copy other differs =
+    (Installs-installed files name copy).others other (λ same. true≢false (sym (same_name-refl other) ∙ ap (same_name other) same ∙ differs))
+
+other-installed_all : (files : Files) (writes : List Write) → KeepsOthers (map (λ write. write.file) writes) files (installed_all files writes)
+other-installed_all files [] other none = refl
+other-installed_all files (write ∷ writes) other none =
+    let both = or_parts (same_name other write.file) (list_any (same_name other) (map (λ w. w.file) writes)) none in
+    other-installed_all (copies_after_install files write.file (copy_in write)) writes other both.1
+    ∙ other-installed files write.file (copy_in write) other both.0
+
+-- the copies of other files stay under a step
+pub step-keeps : (ask : NodeAsk) (old : Records) (number : ℕ) (step : NodeStep) → KeepsOthers (raised_files ask (step_raises step)) old.copies (records_after_step old number step).copies
+step-keeps ask old number steps.Nothing file none = refl
+step-keeps ask old number (steps.Lock txn name mode version) file none = refl
+step-keeps ask old number (steps.Vote txn vote) file none = refl
+step-keeps ask old number (steps.Discard txn vote) file none = refl
+step-keeps ask old number (steps.Install txn vote writes newer) file none = other-installed_all old.copies writes file none
+step-keeps ask old number (steps.Release txn) file none = refl
+step-keeps ask old number (steps.Refresh write) file none =
+    other-installed old.copies write.file (record { version = write.version; content = write.content }) file (or_parts (same_name file write.file) false none).0
+step-keeps ask old number (steps.Unfinished records) file none = refl
+step-keeps ask old number (steps.Copies newer) file none = other-installed_all old.copies newer file none
+step-keeps ask old number steps.Crash file none = refl
+step-keeps ask old number steps.Return file none = refl
+
+-- ---- and those of its own files come to the versions told
+
+own-installed_all : (files : Files) (writes : List Write) → AllByRecursion (λ write. write.version ≤ (copy_of (installed_all files writes) write.file).version) writes
+own-installed_all files [] = tt
+own-installed_all files (write ∷ writes) =
+    let first = copies_after_install files write.file (copy_in write) in
+    (rises_then _ _ _ (installed-low files write.file (copy_in write)) (rises-installed_all first writes write.file), own-installed_all first writes)
+
+pub step-reaches : (ask : NodeAsk) (old : Records) (number : ℕ) (step : NodeStep) → AreReached ask (step_raises step) (records_after_step old number step).copies
+step-reaches ask old number steps.Nothing = tt
+step-reaches ask old number (steps.Lock txn name mode version) = tt
+step-reaches ask old number (steps.Vote txn vote) = tt
+step-reaches ask old number (steps.Discard txn vote) = tt
+step-reaches ask old number (steps.Install txn vote writes newer) = own-installed_all old.copies writes
+step-reaches ask old number (steps.Release txn) = tt
+step-reaches ask old number (steps.Refresh write) = (installed-low old.copies write.file (record { version = write.version; content = write.content }), tt)
+step-reaches ask old number (steps.Unfinished records) = tt
+step-reaches ask old number (steps.Copies newer) = own-installed_all old.copies newer
+step-reaches ask old number steps.Crash = tt
+step-reaches ask old number steps.Return = tt

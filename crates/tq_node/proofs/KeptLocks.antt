@@ -14,7 +14,7 @@ use Rattle.tq_store.specs.declared.write.Write.{Write}
 use Rattle.tq_locks.specs.Locks.{Locks, LockKey, lock_after, held_of, locks_after_grant, locks_after_release, only_stable, entry_after_keep, locks_after_keep}
 use Rattle.tq_locks.specs.declared.mode.Lock.{Lock}
 use Rattle.tq_locks.specs.declared.mode.Mode.{Mode}
-use Rattle.tq_locks.proofs.LockMaps.{locks_total, locks_same}
+use Rattle.tq_locks.proofs.Found.{locks_total, locks_same, entry_of, get-entry_of, Has-looked_up}
 use Rattle.tq_intents.specs.Kept.{HasOneVoteEach, Votes, kept_locks, kept_votes, open_votes, stable_lock}
 use Rattle.tq_intents.specs.declared.record.KeptLock.{KeptLock}
 use Rattle.tq_intents.specs.declared.record.OpenVote.{OpenVote}
@@ -22,9 +22,8 @@ use Rattle.tq_intents.specs.declared.record.Record.{Record}
 use Rattle.tq_node.specs.Node.{LocksIn}
 use Rattle.tq_node.specs.Records.{kept_lock}
 use Rattle.tq_shape.proofs.Places.{Some-same, Has-map, map-Has, Has-append, Has-filter, filter-Has}
-use Rattle.tq_node.proofs.Maps.{key_cases, insert-same, insert-other, insert-cases, remove-other, remove-cases, retain-in, retain-from}
+use Rattle.tq_node.proofs.Installed.{key_cases, insert-same, insert-other, insert-cases, remove-other, remove-cases, retain-in, retain-from}
 use Rattle.tq_locks.proofs.Locked.{get-kept}
-use Rattle.tq_locks.proofs.Found.{entry_of, get-entry_of, Has-looked_up}
 use Rattle.std.proofs.Math.Bool.{or-false}
 
 -- ---- lists

@@ -1,5 +1,10 @@
--- Where a walk of a transaction's locks comes to one for each write, it holds them all exclusively.
-use Rattle.std.proofs.Common.{◌≡◌, ◌==◌, ◌&&◌, ℕ, Bool, true, false, cond, not, List, [], ◌∷◌, length, Option, Some, None, refl, sym, ap, ◌∙◌, inl, inr}
+-- The locks that a vote keeps: those that it lists, and their versions. Where a walk of a transaction's locks comes to
+-- one for each write, it holds them all exclusively.
+use Rattle.std.proofs.Common.{◌≡◌, ℕ, List, [], ◌∷◌, map, refl, ap, ◌==◌, ◌&&◌, Bool, true, false, cond, not, length, Option, Some, None, sym, ◌∙◌, inl, inr}
+use Rattle.tq_intents.specs.Sharing.{kept_each}
+use Rattle.tq_locks.specs.Locks.{LockKey, is_exclusive, held_of, holds_nothing}
+use Rattle.tq_locks.specs.declared.mode.Lock.{Lock}
+use Rattle.tq_node.specs.Records.{held_lock, kept_lock, Records, holds_exclusively, not_locked}
 use Rattle.std.proofs.lemmas.Bool.{eq-eqb, eqb-true, false≢true}
 use Rattle.std.specs.Cmp.Lexicographic.{same_text}
 use Rattle.std.specs.FinMap as fin
@@ -9,20 +14,25 @@ use Rattle.tq_shape.specs.Journal.{Has, is_empty}
 use Rattle.tq_shape.proofs.Places.{Has-filter, filter-Has}
 use Rattle.tq_store.specs.Names.{same_name}
 use Rattle.tq_store.specs.declared.write.Write.{Write}
-use Rattle.tq_locks.specs.Locks.{LockKey, is_exclusive, held_of, holds_nothing}
-use Rattle.tq_locks.specs.declared.mode.Lock.{Lock}
-use Rattle.tq_locks.proofs.LockMaps.{locks_total, locks_same}
-use Rattle.tq_locks.proofs.Found.{entry_of, get-entry_of, none_some}
-use Rattle.tq_node.specs.Records.{Records, holds_exclusively, not_locked}
-use Rattle.tq_node.specs.Walks.{all_held}
+use Rattle.tq_locks.proofs.Found.{locks_total, locks_same, entry_of, get-entry_of, none_some}
+use Rattle.tq_node.specs.Telling.{all_held}
+
+abbrev pub version_of : LockKey × Lock → ℕ
+version_of entry = entry.1.version
+
+pub kept_each-map : (entries : List (LockKey × Lock)) → kept_each (map held_lock entries) (map version_of entries) ≡ map kept_lock entries
+kept_each-map [] = refl
+kept_each-map (entry ∷ entries) = ap (λ rest. kept_lock entry ∷ rest) (kept_each-map entries)
+
+-- ---- locks walked
 
 module _ (old : Records) (txn : ℕ) where
   abbrev free : Write → Bool
   free write = not (holds_exclusively old txn write.file)
 
   -- a lock of the transaction, on the file of a write
-  held_lock : (entry : LockKey × Lock) (write : Write) → Has (held_of old.locks txn) entry → same_name entry.0.0 write.file ≡ true → is_exclusive entry.1.mode ≡ true → free write ≡ false
-  held_lock entry write has name exclusive =
+  held_here : (entry : LockKey × Lock) (write : Write) → Has (held_of old.locks txn) entry → same_name entry.0.0 write.file ≡ true → is_exclusive entry.1.mode ≡ true → free write ≡ false
+  held_here entry write has name exclusive =
       let of = Has-filter (λ (e : LockKey × Lock). e.0.1 == txn) (fin.entries old.locks) entry has in
       let key : entry.0 ≡ (write.file, txn) = λ i. (same_text entry.0.0 write.file (sym name) i, eqb-true entry.0.1 txn of.1 i) in
       let there : fin.get old.locks (write.file, txn) ≡ Some entry.1 = ap (fin.get old.locks) (sym key) ∙ get-entry_of locks_total locks_same old.locks entry of.0 in
@@ -36,7 +46,7 @@ module _ (old : Records) (txn : ℕ) where
     where
       by_name : (b : Bool) → same_name entry.0.0 write.file ≡ b → (c : Bool) → is_exclusive entry.1.mode ≡ c → cond b (c && all_held walk writes) (all_held walk (write ∷ writes)) ≡ true
           → (all_held walk writes ≡ true → find free writes ≡ None) → (all_held walk (write ∷ writes) ≡ true → find free (write ∷ writes) ≡ None) → find free (write ∷ writes) ≡ None
-      by_name true name true mode t here later = ap (λ b. cond b (Some write) (find free writes)) (held_lock entry write (from entry (inl refl)) name mode) ∙ here t
+      by_name true name true mode t here later = ap (λ b. cond b (Some write) (find free writes)) (held_here entry write (from entry (inl refl)) name mode) ∙ here t
       by_name true name false mode t here later = absurd (false≢true t)
       by_name false name c mode t here later = later t
 

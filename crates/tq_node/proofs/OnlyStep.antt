@@ -10,7 +10,7 @@ use Rattle.tq_store.specs.Copies.{copy_of, installed_all}
 use Rattle.tq_store.specs.declared.copies.FileCopy.{FileCopy}
 use Rattle.tq_store.specs.declared.write.Write.{Write}
 use Rattle.tq_locks.specs.Locks.{is_exclusive, blocker, locks_after_grant, held_of, holds_nothing, locks_after_release}
-use Rattle.tq_shape.specs.Journal.{is_empty}
+use Rattle.tq_shape.specs.Journal.{is_empty, refuse, refuse_for, state_at}
 use Rattle.tq_locks.specs.declared.mode.Lock.{Lock}
 use Rattle.tq_locks.specs.declared.mode.Mode.{Mode}
 use Rattle.tq_locks.specs.declared.mode.Mode.TheVariants.{Exclusive}
@@ -27,9 +27,8 @@ use Rattle.tq_asks.specs.declared.ask.Verdict.{Verdict}
 use Rattle.tq_asks.specs.declared.ask.WorkAsk.TheVariants as work
 use Rattle.tq_node.specs.Cases.{IsOnlyStep, IsStep, Holds, Blocks, Cites}
 use Rattle.tq_node.specs.Node.{NodeView, server_after}
-use Rattle.tq_asks.specs.Citing.{cites_vote}
+use Rattle.tq_asks.specs.Verdicts.{cites_vote}
 use Rattle.tq_node.specs.Records.{Records, has_vote, holds_exclusively, not_locked, are_good_writes, refusal, open_vote, installs, reply_of, records_after, writes_of, answer_at, node_reply}
-use Rattle.tq_shape.specs.Steps.{refuse, refuse_for, state_at}
 use Rattle.tq_node.proofs.ByCases.{blocker_is, nothing_blocks, holds_is, cites_is, cites_not, state_at-records}
 
 -- ---- one refusal after another

@@ -19,12 +19,10 @@ use Rattle.tq_asks.specs.declared.ask.WorkAsk.{WorkAsk}
 use Rattle.tq_asks.specs.declared.ask.WorkAsk.TheVariants as work
 use Rattle.tq_node.specs.Node.{IsKept, IsSound}
 use Rattle.tq_node.specs.Records.{Records, NodeState, has_vote, work_refusal, open_vote, installs, kept_lock, work_after, work_writes}
-use Rattle.tq_shape.specs.Steps.{refuse}
-use Rattle.tq_node.proofs.Numbers.{above_greater}
-use Rattle.tq_node.proofs.Sound.{open_votes-copies, sound-later, sound-granted, sound-released, sound-copies, sound-newer, sound-prepared, sound-ended, sound-as, kept_is}
+use Rattle.tq_shape.specs.Journal.{refuse, refuse-none}
+use Rattle.tq_node.proofs.Sound.{above_greater, open_votes-copies, sound-later, sound-granted, sound-released, sound-copies, sound-newer, sound-prepared, sound-ended, sound-as, kept_is}
 use Rattle.tq_node.proofs.StepFrames.{open_vote-is}
 use Rattle.tq_shape.proofs.Options.{none_of, some_of}
-use Rattle.tq_shape.specs.Unrefused.{refuse-none}
 
 pub record IsRecorded (last : ℕ) (st : NodeState) : Type 0 where
   pub sound : IsSound st.stable last st.records.copies st.records.locks

@@ -1,22 +1,25 @@
--- What a server's type promises stays true as its copies, locks and records change; and by it the records keep the copies, the votes and their locks.
-use Rattle.std.proofs.Common.{◌≡◌, ℕ, ◌+◌, ◌<◌, ◌≤◌, Bool, true, List, [], ◌∷◌, ◌++◌, map, Option, Some, None, IsSome, refl, sym, ap, subst, ◌∙◌, arith, filter}
+-- The numbers in a server's records aren't above that of the last ask answered. What a server's type promises stays
+-- true as its copies, locks and records change; and by it the records keep the copies, the votes and their locks.
+use Rattle.std.proofs.Common.{◌≡◌, ◌<◌, ◌+◌, ℕ, Bool, true, false, cond, List, [], ◌∷◌, ◌++◌, Option, Some, None, refl, ap, sym, subst, ◌∙◌, arith, ◌≤◌, map, IsSome, filter}
+use mathlib.Core.Bool.{true≢false}
+use Rattle.std.specs.FinMap as fin
+use Rattle.std.specs.Cmp.{nat_cmp_total}
+use Rattle.std.specs.List.{list_any, filter_map, cons_option, AllByRecursion}
+use Rattle.std.specs.Option.{is_none, option_map_or}
+use Rattle.std.specs.Ordering.{nat_cmp, eq_by_cmp}
+use Rattle.tq_intents.specs.Kept.{ends_vote, vote_of, opened_vote, open_votes, kept_votes, IsAbove, vote_at, AreDead, HasOneVoteEach, IsUnfinished, Votes, vote_records}
+use Rattle.tq_intents.specs.declared.record.OpenVote.{OpenVote}
+use Rattle.tq_intents.specs.declared.record.Record.{Record}
+use Rattle.tq_intents.specs.declared.record.Record.TheVariants.{Copy, Intent, Keep, Prepared, Gone}
+pub use Rattle.tq_intents.proofs.DeadRecords.{above_append, above_copies, above_greater, above_vote}
 use Rattle.std.proofs.lemmas.Bool.{false≢true}
 use Rattle.std.proofs.lemmas.List.{append-nil}
-use Rattle.std.specs.FinMap as fin
-use Rattle.std.specs.List.{AllByRecursion}
-use Rattle.std.specs.Ordering.{nat_cmp}
-use Rattle.std.specs.Option.{option_map_or}
 use Rattle.tq_store.specs.Copies.{Files, installed_all, is_newer}
 use Rattle.tq_store.specs.declared.write.Write.{Write}
 use Rattle.tq_locks.specs.Locks.{Locks, locks_after_ask, blocker, held_of, locks_after_grant, locks_after_release, only_stable, locks_after_keep}
-use Rattle.tq_shape.specs.Steps.{state_at}
+use Rattle.tq_shape.specs.Journal.{state_at}
 use Rattle.tq_locks.specs.declared.mode.Mode.{Mode}
-use Rattle.tq_intents.specs.Kept.{AreDead, HasOneVoteEach, IsAbove, IsUnfinished, Votes, kept_votes, open_votes, vote_at, vote_records}
-use Rattle.tq_intents.specs.declared.record.OpenVote.{OpenVote}
-use Rattle.tq_intents.specs.declared.record.Record.{Record}
-use Rattle.tq_intents.specs.declared.record.Record.TheVariants.{Copy, Gone}
-use Rattle.tq_intents.proofs.CopiesPush.{installed_all-newer, kept_copies-others, kept_copies-push_copies, kept_copies-vote}
-use Rattle.tq_intents.proofs.CopyPush.{open_votes-push_copies}
+use Rattle.tq_intents.proofs.CopiesPush.{installed_all-newer, kept_copies-others, kept_copies-push_copies, kept_copies-vote, open_votes-push_copies}
 use Rattle.tq_intents.proofs.DeadRecords.{dead_above, dead_copies, open_votes-dead}
 use Rattle.tq_intents.proofs.Votes.{HasOneVoteEach-ended, HasOneVoteEach-given, kept_votes-ended, kept_votes-given}
 use Rattle.tq_node.specs.Node.{IsKept, IsSound, LocksIn, NodeView}
@@ -24,7 +27,45 @@ use Rattle.tq_node.specs.NodeChanges.{server_at_stop, server_after_step}
 use Rattle.tq_node.specs.declared.change.NodeStep.TheVariants.{Crash}
 use Rattle.tq_node.specs.Records.{kept_lock}
 use Rattle.tq_node.proofs.KeptLocks.{kept_locks-is, locks-crashed, locks-decided, locks-granted, locks-none, locks-prepared, locks-released}
-use Rattle.tq_node.proofs.Numbers.{above_append, above_copies, above_ended, above_greater, above_vote}
+
+number_of : Option OpenVote → ℕ
+number_of None = 0
+number_of (Some vote) = vote.number
+
+some_number : (a b : OpenVote) → Some a ≡ Some b → a.number ≡ b.number
+unfolding number_of
+some_number a b e = ap number_of e
+
+none_some : {X : Type 0} {x : X} → None ≡ Some x → ⊥
+none_some e = absurd (true≢false (ap is_none e))
+
+found_entry : (t k s : ℕ) (v w : OpenVote) (test : Bool) (later : Option OpenVote) → (later ≡ Some v → v.number < k) → w.number < k → cond test (Some w) later ≡ Some v → v.number < k
+found_entry t k s v w true later f less e = subst (λ n. n < k) (some_number w v e) less
+found_entry t k s v w false later f less e = f e
+
+found_opened : (t k s : ℕ) (v w : OpenVote) (b : Bool) (es : List (ℕ × OpenVote)) → (fin.find nat_cmp t es ≡ Some v → v.number < k) → w.number < k → fin.find nat_cmp t (cons_option (cond {A = Option (ℕ × OpenVote)} b None (Some (s, w))) es) ≡ Some v → v.number < k
+found_opened t k s v w true es f less e = f e
+found_opened t k s v w false es f less e = found_entry t k s v w (eq_by_cmp nat_cmp t s) (fin.find nat_cmp t es) f less e
+
+vote_found : (whole : List Record) (t k : ℕ) (v : OpenVote) (rest : List Record) → IsAbove k rest → fin.find nat_cmp t (filter_map (opened_vote whole) rest) ≡ Some v → v.number < k
+vote_found whole t k v [] h e = absurd (none_some e)
+vote_found whole t k v (Copy write ∷ rest) h e = vote_found whole t k v rest h.1 e
+vote_found whole t k v (Intent s m write ∷ rest) h e = vote_found whole t k v rest h.1 e
+vote_found whole t k v (Keep s m lock ∷ rest) h e = vote_found whole t k v rest h.1 e
+vote_found whole t k v (Gone s m ∷ rest) h e = vote_found whole t k v rest h.1 e
+vote_found whole t k v (Prepared s m ∷ rest) h e = found_opened t k s v (vote_of whole s m) (list_any (ends_vote s m) whole) (filter_map (opened_vote whole) rest) (vote_found whole t k v rest h.1) h.0 e
+
+pub vote_below : (list : List Record) (t k : ℕ) (v : OpenVote) → IsAbove k list → fin.get (kept_votes list) t ≡ Some v → v.number < k
+vote_below list t k v h e = vote_found list t k v list h (sym (fin.get-from_entries nat_cmp_total (open_votes list) t) ∙ e)
+
+at_below : (votes : Option OpenVote) (last : ℕ) → ((v : OpenVote) → votes ≡ Some v → v.number < last + 1) → (option_map_or (λ vote. vote) votes (record { number = 0; writes = []; locks = [] })).number < last + 1
+at_below None last f = omega arith
+at_below (Some v) last f = f v refl
+
+pub above_ended : (list : List Record) (t last : ℕ) → IsAbove (last + 1) list → IsAbove (last + 1) (list ++ Gone t (vote_at (kept_votes list) t).number ∷ [])
+above_ended list t last h = above_append (last + 1) list (Gone t (vote_at (kept_votes list) t).number ∷ []) h (at_below (fin.get (kept_votes list) t) last (λ v e. vote_below list t (last + 1) v h e), tt)
+
+-- ---- sound
 
 -- ---- the lists
 

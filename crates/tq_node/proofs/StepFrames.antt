@@ -14,12 +14,12 @@ use Rattle.tq_locks.specs.Locks.{Locks, LockKey, conflicts, is_exclusive, lock_a
 use Rattle.tq_locks.specs.declared.mode.Lock.{Lock}
 use Rattle.tq_locks.specs.declared.mode.Mode.{Mode}
 use Rattle.tq_locks.specs.declared.mode.Mode.TheVariants.{Shared, Exclusive}
-use Rattle.tq_locks.proofs.LockMaps.{locks_total, locks_same}
+use Rattle.tq_locks.proofs.Found.{locks_total, locks_same, entry_of, get-entry_of}
 use Rattle.tq_intents.specs.Kept.{Votes, stable_lock}
 use Rattle.tq_intents.specs.declared.record.KeptLock.{KeptLock}
 use Rattle.tq_intents.specs.declared.record.OpenVote.{OpenVote}
 use Rattle.tq_node.specs.Records.{Records, has_vote, holds_exclusively, not_locked, are_good_writes, work_refusal, open_vote, installs, held_lock, kept_lock, work_reply, work_after, records_after_crash, answer_at}
-use Rattle.tq_shape.specs.Steps.{refuse, refuse_for}
+use Rattle.tq_shape.specs.Journal.{refuse, refuse_for, refuse-none, refuse_for-none, Has}
 use Rattle.tq_asks.specs.declared.ask.CitedVote.{CitedVote}
 use Rattle.tq_asks.specs.declared.ask.HeldLock.{HeldLock}
 use Rattle.tq_asks.specs.declared.ask.NodeAsk.{NodeAsk}
@@ -31,18 +31,14 @@ use Rattle.tq_asks.specs.declared.ask.NodeReply.TheVariants as replies
 use Rattle.tq_asks.specs.declared.ask.Verdict.{Verdict}
 use Rattle.tq_asks.specs.declared.ask.WorkAsk.{WorkAsk}
 use Rattle.tq_asks.specs.declared.ask.WorkAsk.TheVariants as work
-use Rattle.tq_shape.specs.Journal.{Has}
 use Rattle.tq_node.specs.NodeJournal.{NodeEntry, node_state, IsLegalNode, IsCited, HasWrite}
 use Rattle.tq_node.specs.NodeLaws.{IsOwner, held_kept, is_refusal}
 use Rattle.tq_shape.proofs.Places.{none-Has, Has-map, map-Has, Has-filter, filter-Has}
 use Rattle.tq_node.proofs.Frames.{AreAmong, IsYes, IsRaised, Tells, Frame}
-use Rattle.tq_node.proofs.Maps.{insert-same, insert-other, insert-cases, remove-other, remove-cases, retain-from}
+use Rattle.tq_node.proofs.Installed.{insert-same, insert-other, insert-cases, remove-other, remove-cases, retain-from, installed-cases, all-low, all-cases}
 use Rattle.tq_locks.proofs.Locked.{get-kept}
-use Rattle.tq_locks.proofs.Found.{entry_of, get-entry_of}
 use Rattle.tq_node.proofs.KeptLocks.{map-some, stabled, stabled-own, stabled-other, get-own, released-other, only_stable-in}
-use Rattle.tq_node.proofs.Installed.{installed-cases, all-low, all-cases}
-use Rattle.tq_store.proofs.SameName.{same_name-refl}
-use Rattle.tq_shape.specs.Unrefused.{refuse-none, refuse_for-none}
+use Rattle.tq_store.proofs.Padded.{same_name-refl}
 use Rattle.tq_shape.proofs.Options.{none_of, some_of, map-none}
 
 exclusive_mode : (m : Mode) → is_exclusive m ≡ true → m ≡ Exclusive

@@ -4,8 +4,5 @@ pub mod Cases
 pub mod NodeJournal
 pub mod NodeChanges
 pub mod NodePlans
-pub mod Plans
-pub mod Untouched
 pub mod Telling
-pub mod Walks
 pub mod NodeLaws

@@ -2,7 +2,7 @@
 use Rattle.std.specs.Prelude.{◌≡◌, ℕ, true, false, List, [], Option, Some, None, ◌⊎◌}
 use Rattle.std.specs.FinMap as fin
 use Rattle.tq_shape.specs.Journal.{state_after, IsLegal, entry_at, Has}
-use Rattle.tq_shape.specs.declared.entry.Entry.{Entry}
+use Rattle.tq_shape.specs.declared.part.Entry.{Entry}
 use Rattle.tq_store.specs.Copies.{Files}
 use Rattle.tq_store.specs.declared.write.Write.{Write}
 use Rattle.tq_locks.specs.Locks.{Locks}
@@ -16,7 +16,7 @@ use Rattle.tq_asks.specs.declared.ask.NodeReply.TheVariants as replies
 use Rattle.tq_asks.specs.declared.ask.Verdict.{Verdict}
 use Rattle.tq_asks.specs.declared.ask.WorkAsk.{WorkAsk}
 use Rattle.tq_asks.specs.declared.ask.WorkAsk.TheVariants as work
-use Rattle.tq_asks.specs.Citing.{cites_vote}
+use Rattle.tq_asks.specs.Verdicts.{cites_vote}
 use Rattle.tq_node.specs.Records.{NodeState, node_reply, node_after}
 
 abbrev pub NodeEntry : Type 0

@@ -21,10 +21,9 @@ use Rattle.tq_asks.specs.declared.ask.NodeRefusal.TheVariants as refusals
 use Rattle.tq_node.specs.declared.change.NodeStep.{NodeStep}
 use Rattle.tq_node.specs.declared.change.NodeStep.TheVariants as steps
 use Rattle.tq_node.specs.Records.{Records, NodeState, has_vote, installs, refusal, open_vote, work_refusal, kept_records, records_after, work_after, work_writes, writes_of}
-use Rattle.tq_shape.specs.Steps.{state_at}
+use Rattle.tq_shape.specs.Journal.{state_at, refuse-none, refuse_for-none}
 use Rattle.tq_node.specs.Node.{NodeView, server_after, opening_server}
 use Rattle.tq_node.specs.NodeChanges.{cut_step, end_step, is_stop, work_step, state_left, step_of, node_change, node_changed, records_of, records_after_step, NodeFits, StepFits}
-use Rattle.tq_shape.specs.Unrefused.{refuse-none, refuse_for-none}
 
 -- ---- a plan may be made
 

@@ -14,7 +14,7 @@ use Rattle.tq_intents.specs.declared.record.KeptLock.{KeptLock}
 use Rattle.tq_intents.specs.declared.record.OpenVote.{OpenVote}
 use Rattle.tq_intents.specs.declared.record.Record.{Record}
 use Rattle.tq_intents.specs.declared.record.Record.TheVariants as stable
-use Rattle.tq_asks.specs.Citing.{cites_vote}
+use Rattle.tq_asks.specs.Verdicts.{cites_vote}
 use Rattle.tq_asks.specs.declared.ask.HeldLock.{HeldLock}
 use Rattle.tq_asks.specs.declared.ask.NodeAsk.{NodeAsk}
 use Rattle.tq_asks.specs.declared.ask.NodeAsk.TheVariants.{Work, Crash, Return, CrashIn}
@@ -25,7 +25,7 @@ use Rattle.tq_asks.specs.declared.ask.NodeReply.TheVariants.{Granted, Yes, Insta
 use Rattle.tq_asks.specs.declared.ask.Verdict.{Verdict}
 use Rattle.tq_asks.specs.declared.ask.WorkAsk.{WorkAsk}
 use Rattle.tq_asks.specs.declared.ask.WorkAsk.TheVariants.{Lock as LockAsk, Prepare, Decide, Release, Peek, Refresh}
-use Rattle.tq_shape.specs.Steps.{refuse, refuse_for, state_at}
+use Rattle.tq_shape.specs.Journal.{refuse, refuse_for, state_at}
 
 -- the raw records of a server: copies, at most one of a file; locks; open votes; down or not
 pub record Records : Type 0 where

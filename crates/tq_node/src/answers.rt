@@ -2,8 +2,7 @@
 
 use crate::{Node, NodeAsk, NodeChange, NodeReply};
 use std::alloc::Global;
-use tq_part::{Answers, Plan};
-use tq_shape::Memory;
+use tq_shape::{Answers, Memory, Plan};
 
 impl Answers for Node {
     ghost use Rattle.std.specs.Prelude.{◌<◌, refl};

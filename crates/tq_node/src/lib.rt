@@ -1,8 +1,7 @@
 //! A server: its copies, locks and votes, what it answers to each ask, and what its journals say.
 //!
-//! Definitions: `specs/Records` (the step as a function), `Cases` (by cases), `Node`, `Telling`, `NodeJournal`,
-//! `NodeLaws`; `Walks` is the code's own word. `proofs/Frames`, `StepFrames`, `StopFrames` are laws of one entry, `Lawful`
-//! of a journal.
+//! Definitions: `specs/Records` (the step as a function), `Cases` (by cases), `Node`, `NodeJournal`, `NodeLaws`; `Telling` is the
+//! code's own word. `proofs/Frames`, `StepFrames`, `StopFrames` are laws of one entry, `Lawful` of a journal.
 #![tactic(auto)]
 
 mod answers;

@@ -7,10 +7,7 @@ ghost use Rattle.tq_locks.specs.Locks.{blocker};
 ghost use Rattle.tq_node.specs.Records as spec;
 ghost use Rattle.tq_node.specs.Node as node;
 ghost use Rattle.tq_node.specs.Node.{HasOnlyKept, IsKept};
-ghost use Rattle.tq_node.specs.NodeChanges.{server_at_stop, node_change, node_changed, server_in_vote, server_after_vote};
-ghost use Rattle.tq_node.specs.NodeChanges.{Installs, Locks, NodeFits, StepsCopies, Takes, TakesOrNotes};
-ghost use Rattle.tq_node.specs.Plans.{planned_stop, work_replied, write_of};
-ghost use Rattle.tq_node.specs.Plans.{IsEndPlan, IsLockPlan, IsRefreshPlan, IsWorkPlan};
+ghost use Rattle.tq_node.specs.NodeChanges.{server_at_stop, node_change, node_changed, server_in_vote, server_after_vote, Installs, Locks, NodeFits, StepsCopies, Takes, TakesOrNotes, planned_stop, work_replied, write_of, IsEndPlan, IsLockPlan, IsRefreshPlan, IsWorkPlan};
 ghost use Rattle.tq_node.specs.Cases.{IsOnlyStepOf, IsStepOf};
 
 mod refusals;
@@ -23,8 +20,7 @@ use std::collections::btree_map::Iter;
 use std::marker::Model;
 use tq_intents::{Intents, NewerWrite, OpenVote, Record, SharedWrite, VoteLocks};
 use tq_locks::{LockTable, Mode};
-use tq_part::Plan;
-use tq_shape::{Levels, Memory, Seq, ServerId, SharedSeq};
+use tq_shape::{Levels, Memory, Plan, Seq, ServerId, SharedSeq};
 use tq_store::{Content, Copies, FileName, Write};
 
 /// A server: its copies, locks and open votes, the stable records that keep them, and whether it is down.

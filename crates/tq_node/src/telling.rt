@@ -1,7 +1,7 @@
 //! A reply told twice, where an ask is answered at once.
 
 ghost use Rattle.std.specs.Prelude.{◌≡◌, [], ◌∷◌, IfOk};
-ghost use Rattle.tq_node.specs.Untouched.{step_raises};
+ghost use Rattle.tq_node.specs.Telling.{step_raises};
 
 use crate::{NodeReply, NodeStep};
 use std::alloc::Global;

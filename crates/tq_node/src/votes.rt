@@ -1,7 +1,7 @@
 //! What a vote lists, and what it may write.
 ghost use Rattle.std.specs.Prelude.{◌≡◌, IfOk};
 ghost use Rattle.tq_node.specs.Records as spec;
-ghost use Rattle.tq_node.specs.Walks.{all_held};
+ghost use Rattle.tq_node.specs.Telling.{all_held};
 
 use crate::{HeldLock, MOST_WRITES};
 use std::alloc::Global;

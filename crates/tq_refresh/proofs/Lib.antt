@@ -1,4 +1,2 @@
 pub mod Marked
 pub mod Walked
-pub mod Planned
-pub mod Asked

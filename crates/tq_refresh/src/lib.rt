@@ -1,7 +1,7 @@
 //! Refresh: which stale copies of the tables are mended and from where, what is asked to mend them, and how a worker asks it
 //! over any asker.
 //!
-//! Definitions: `specs/Plan`, `Mending`.
+//! Definitions: `specs/Plan`.
 #![tactic(auto)]
 
 mod file_jobs;

@@ -1,13 +1,12 @@
 //! What a worker asks for a job.
 
 ghost use Rattle.std.specs.Prelude.{◌≡◌, true, false, IfOk, OnOk, OnErr};
-ghost use Rattle.tq_refresh.specs.Mending.{IsAnswered, IsBegun, Grows, refresh_asked, worker_asked};
+ghost use Rattle.tq_refresh.specs.Plan.{IsAnswered, IsBegun, Grows, refresh_asked, worker_asked};
 
 use crate::job::{Job, copy_ask, peek_ask};
 use std::alloc::{AllocError, Global};
 use tq_asks::NodeAsk;
-use tq_part::AskFault;
-use tq_shape::{Levels, Memory, ServerId};
+use tq_shape::{AskFault, Levels, Memory, ServerId};
 use tq_txn::{Asker, NodeTold};
 
 /// Does one job of a tree of these levels, and says whether memory was refused: then its asks were begun. For a job of

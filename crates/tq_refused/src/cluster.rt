@@ -13,8 +13,7 @@ use std::thread::Threads;
 use tq_cells::OpenGate;
 use tq_cluster::{Caller, CloseFault, Cluster, Explained, LiveBoard, PullFault, Ran};
 use tq_core::Step;
-use tq_part::AskFault;
-use tq_shape::Part;
+use tq_shape::{AskFault, Part};
 use tq_tables::Journals;
 
 /// Pulls each part, and prints the board.

@@ -6,10 +6,9 @@ use crate::input::text_of;
 use crate::wrong::Wrong;
 use std::alloc::Global;
 use tq_core::{Journal, Refusal, Service, Step};
-use tq_equality::{OfDesk, OfServer, OfView, begins};
 use tq_merge::{EntryName, found};
 use tq_shape::Part;
-use tq_tables::Journals;
+use tq_tables::{Journals, begins};
 
 /// Takes all steps, and prints the board and the journals that they leave.
 pub(crate) fn run(rt: &HostRuntime, journals: &Journals, order: &[Part]) -> Result<(), Wrong> {
@@ -123,13 +122,13 @@ fn are_same(alloc: Global, one: &Service, other: &Service) -> Result<bool, Wrong
 fn is_same_journal(one: &Service, other: &Service, part: Part) -> bool {
     match (one.journal(part), other.journal(part)) {
         (Some(Journal::Server(entries)), Some(Journal::Server(others))) => {
-            entries.len() == others.len() && begins::<OfServer>(entries, others)
+            entries.len() == others.len() && begins(entries, others)
         }
         (Some(Journal::Desk(entries)), Some(Journal::Desk(others))) => {
-            entries.len() == others.len() && begins::<OfDesk>(entries, others)
+            entries.len() == others.len() && begins(entries, others)
         }
         (Some(Journal::View(entries)), Some(Journal::View(others))) => {
-            entries.len() == others.len() && begins::<OfView>(entries, others)
+            entries.len() == others.len() && begins(entries, others)
         }
         _ => false,
     }

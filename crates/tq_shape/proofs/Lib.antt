@@ -1,10 +1,7 @@
-pub mod Depth
 pub mod Tree
-pub mod Towards
 pub mod Joined
 pub mod Places
-pub mod Marks
 pub mod SetBits
 pub mod SetWords
-pub mod Orderings
 pub mod Options
+mod Digits

@@ -1,8 +1,11 @@
--- Where there is a value, and where there is none.
-use Rattle.std.proofs.Common.{◌≡◌, false, not, Option, Some, None, is_some, refl}
+-- Where there is a value, and where there is none. What a comparison says that ends in a tie.
+use Rattle.std.proofs.Common.{◌≡◌, false, not, Option, Some, None, is_some, refl, true, sym}
 use Rattle.std.proofs.lemmas.Bool.{true≢false}
 use Rattle.std.specs.Option.{option_map}
-use Rattle.tq_shape.specs.Steps.{or_else}
+use Rattle.tq_shape.specs.Journal.{or_else}
+use Rattle.std.specs.Ordering.{is_eq}
+use Rattle.std.specs.declared.cmp.Ordering.{Ordering}
+use Rattle.std.specs.declared.cmp.Ordering.TheVariants.{Less, Equal, Greater}
 
 pub none_of : {A : Type 0} (o : Option A) → is_some o ≡ false → o ≡ None
 none_of None h = refl
@@ -19,3 +22,10 @@ map-none f (Some x) h = absurd cc
 pub or_else-none : {A : Type 0} (o p : Option A) → or_else o p ≡ None → (o ≡ None) × (p ≡ None)
 or_else-none None p h = (refl, h)
 or_else-none (Some x) p h = absurd cc
+
+-- ---- orderings
+
+pub is_eq-Equal : (r : Ordering) → is_eq r ≡ true → r ≡ Equal
+is_eq-Equal Less h = absurd (true≢false (sym h))
+is_eq-Equal Equal h = refl
+is_eq-Equal Greater h = absurd (true≢false (sym h))

@@ -1,8 +1,10 @@
--- The entries of a journal that grows, and values in lists.
-use Rattle.std.proofs.Common.{◌≡◌, ℕ, suc, ◌≤◌, ◌<◌, Bool, true, false, cond, eqb, List, [], ◌∷◌, ◌++◌, length, map, filter, Option, Some, None, refl, sym, ap, ◌∙◌, ◌⊎◌, inl, inr, arith}
+-- The entries of a journal that grows, and values in lists. A journal that is one entry longer.
+use Rattle.std.proofs.Common.{◌≡◌, ℕ, suc, ◌≤◌, ◌<◌, Bool, true, false, cond, eqb, List, [], ◌∷◌, ◌++◌, length, map, filter, Option, Some, None, refl, sym, ap, ◌∙◌, ◌⊎◌, inl, inr, arith, ◌+◌, subst, length-append}
 use Rattle.std.proofs.lemmas.Bool.{cases_Bool, cond-true, cond-false, eqb-true, eq-eqb, ne_eqb, and_parts, or_cases, or_left, or_right, false≢true, true≢false}
 use Rattle.std.specs.List.{list_any, list_all, find}
-use Rattle.tq_shape.specs.Journal.{entry_at, Has}
+use Rattle.tq_shape.specs.Journal.{entry_at, Has, entry, state_from, IsLegalFrom}
+use Rattle.tq_shape.specs.declared.part.Entry.{Entry}
+use Rattle.tq_shape.specs.Agrees.{Agrees}
 
 pub Some-same : {A : Type 0} {x y : A} → Some x ≡ Some y → x ≡ y
 Some-same h = cc
@@ -130,3 +132,37 @@ filter-Has p (y ∷ xs) x h t = by (p y) refl h (λ r. filter-Has p xs x r t)
     by true q (inr r) ih = inr (ih r)
     by false q (inl e) ih = absurd (true≢false (sym t ∙ ap p (sym e) ∙ q))
     by false q (inr r) ih = ih r
+
+-- ---- one more
+
+module _ {S A R : Type 0} (reply : S → ℕ → A → R) (after : S → ℕ → A → S) where
+  pub state-snoc : (s : S) (n : ℕ) (js : List (Entry A R)) (e : Entry A R) → state_from after s n (js ++ e ∷ []) ≡ after (state_from after s n js) (length js + n) e.ask
+  state-snoc s n [] e = ap (λ k. after s k e.ask) (omega arith)
+  state-snoc s n (j ∷ js) e =
+      state-snoc (after s n j.ask) (n + 1) js e
+      ∙ ap (λ k. after (state_from after (after s n j.ask) (n + 1) js) k e.ask) (omega arith)
+
+  pub legal-snoc : (s : S) (n : ℕ) (js : List (Entry A R)) (e : Entry A R) → IsLegalFrom reply after s n js → e.reply ≡ reply (state_from after s n js) (length js + n) e.ask → IsLegalFrom reply after s n (js ++ e ∷ [])
+  legal-snoc s n [] e legal is = (is ∙ ap (λ k. reply s k e.ask) (omega arith), tt)
+  legal-snoc s n (j ∷ js) e legal is = (
+    legal.0,
+    legal-snoc (after s n j.ask) (n + 1) js e legal.1 (is ∙ ap (λ k. reply (state_from after (after s n j.ask) (n + 1) js) k e.ask) (omega arith)),
+  )
+
+  pub agrees-snoc : (opening : S → S) (is_ready : S → ℕ → Type 0)
+      → ((s : S) (n : ℕ) (a : A) → is_ready s n → is_ready (after s n a) (n + 1))
+      → ((s : S) (n : ℕ) (a : A) → opening (after s n a) ≡ opening s)
+      → (part : S) (js : List (Entry A R)) (limit : ℕ) (ask : A) → Agrees opening is_ready reply after part js limit → length js < limit
+      → Agrees opening is_ready reply after (after part (length js + 1) ask) (js ++ entry ask (reply part (length js + 1) ask) ∷ []) limit
+  agrees-snoc opening is_ready stays keeps part js limit ask agrees room =
+      let o = opening part in
+      let e = entry ask (reply part (length js + 1) ask) in
+      let same : opening (after part (length js + 1) ask) ≡ o = keeps part (length js + 1) ask in
+      let here : part ≡ state_from after o 1 js = agrees.replays in
+      let one_more : length (js ++ e ∷ []) ≡ length js + 1 = length-append js (e ∷ []) in
+      record {
+        legal = subst (λ p. IsLegalFrom reply after p 1 (js ++ e ∷ [])) (sym same) (legal-snoc o 1 js e agrees.legal (ap (λ p. reply p (length js + 1) ask) here));
+        replays = ap (λ p. after p (length js + 1) ask) here ∙ sym (state-snoc o 1 js e) ∙ ap (λ p. state_from after p 1 (js ++ e ∷ [])) (sym same);
+        ready = subst (λ k. is_ready (after part (length js + 1) ask) (k + 1)) (sym one_more) (stays part (length js + 1) ask agrees.ready);
+        room = omega (arith, one_more);
+      }

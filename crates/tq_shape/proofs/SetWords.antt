@@ -10,8 +10,7 @@ use Rattle.std.proofs.lemmas.List.{length-append, length-set, length-replicate, 
 use Rattle.std.proofs.lemmas.List.Elements.{All-nil, All-head, All-tail, All-filter}
 use Rattle.tq_shape.specs.ServerSet.{Ascends, AreLeft, AreWordsOf, has_number, marked_numbers, marks_in, marks_of_word, servers_of_numbers, numbers_left, numbers_of, with_number, without_number}
 use Rattle.tq_shape.specs.Tree.{IsServer, Server}
-use Rattle.tq_shape.proofs.Marks.{has_number-marked, marked-with, marked-without, marked-append, marked-ascends, All-with_number}
-use Rattle.tq_shape.proofs.SetBits.{word-length, word-none, word-has, word-with, word-without, word-first}
+use Rattle.tq_shape.proofs.SetBits.{has_number-marked, marked-with, marked-without, marked-append, marked-ascends, All-with_number, word-length, word-none, word-has, word-with, word-without, word-first}
 
 -- ---- the marks of words
 

@@ -1,11 +1,108 @@
--- Which servers stand in which subtree.
-use Rattle.std.proofs.Common.{◌≡◌, ℕ, ◌+◌, ◌*◌, ◌/◌, ◌^◌, ◌<◌, ◌≤◌, zero, suc, true, false, ◌||◌, eqb, refl, sym, inl, inr, arith, ap, ◌∙◌}
-use Rattle.std.proofs.lemmas.Bool.{eqb-true, eq-eqb, or_cases, or_left, or_right, false_from_ne_true}
-use Rattle.tq_shape.specs.Tree.{stands_in, ancestor, left_of, right_of}
-use Rattle.tq_shape.specs.Depth.{depth_of}
-use Rattle.std.proofs.lemmas.Bool.{cases_lt, cases_eq}
+-- The depth of a server is the one power of two that its number lies above. Which servers stand in which subtree.
+-- Which servers stand at or above another, seen from its parent.
+use Rattle.std.proofs.Common.{◌≡◌, ℕ, ◌+◌, ◌-◌, ◌*◌, ◌/◌, ◌^◌, ◌<◌, ◌≤◌, zero, suc, refl, inl, inr, arith, ap, ◌∙◌, true, false, ◌||◌, eqb, sym, ◌≢◌, Option, None, Some, IfSome, IfNone}
+use Rattle.std.proofs.lemmas.Bool.{cases_lt, lt-ltb, le-ltb, eqb-true, eq-eqb, or_cases, or_left, or_right, false_from_ne_true, cases_eq}
+use Rattle.std.proofs.lemmas.Nat.{pow_pos}
 use Rattle.std.proofs.Math.Nat.{pow-suc, pow-le-pow_right}
-use Rattle.tq_shape.proofs.Depth.{depth_of-side, depth_of-one, depth_of-bounds}
+use Rattle.tq_shape.specs.Tree.{depth_within, depth_of, height_of, stands_in, ancestor, left_of, right_of, Server, IsAtOrAbove, IsSideTowards}
+
+depth_within-low : (steps number : ℕ) → number < 2 → depth_within (suc steps) number ≡ 0
+unfolding depth_within
+depth_within-low steps number low = rw (lt-ltb number 2 low) refl
+
+depth_within-high : (steps number : ℕ) → 2 ≤ number → depth_within (suc steps) number ≡ 1 + depth_within steps (number / 2)
+unfolding depth_within
+depth_within-high steps number high = rw (le-ltb number 2 high) refl
+
+depth_within-is : (steps number depth : ℕ) → number ≤ steps → 2 ^ depth ≤ number → number < 2 * 2 ^ depth → depth_within steps number ≡ depth
+depth_within-is zero number depth within low high = absurd (omega (arith, pow_pos depth))
+depth_within-is (suc steps) number zero within low high = depth_within-low steps number (omega arith)
+depth_within-is (suc steps) number (suc depth) within low high =
+    let double : 2 ^ suc depth ≡ 2 ^ depth * 2 = pow-suc 2 depth in
+    let positive = pow_pos depth in
+    let half : depth_within steps (number / 2) ≡ depth =
+    depth_within-is steps (number / 2) depth (omega arith) (omega arith) (omega arith) in
+    depth_within-high steps number (omega arith) ∙ (ap (λ n. 1 + n) half ∙ omega arith)
+
+-- the depth is d where the number is from 2^d up to below 2^(d+1)
+pub depth_of-is : (number depth : ℕ) → 2 ^ depth ≤ number → number < 2 * 2 ^ depth → depth_of number ≡ depth
+unfolding depth_of
+depth_of-is number depth low high = depth_within-is number number depth (omega arith) low high
+
+pub record IsDepth (number depth : ℕ) : Type 0 where
+  pub low : 2 ^ depth ≤ number
+  pub high : number < 2 * 2 ^ depth
+
+depth_within-bounds : (steps number : ℕ) → number ≤ steps → 0 < number → IsDepth number (depth_within steps number)
+depth_within-bounds zero number within positive = absurd (omega arith)
+depth_within-bounds (suc steps) number within positive =
+    elim (cases_lt number 2) [
+      | inl low ↦ rw (depth_within-low steps number low) (record { low = omega arith; high = omega arith })
+      | inr high ↦
+          let half : IsDepth (number / 2) (depth_within steps (number / 2)) =
+          depth_within-bounds steps (number / 2) (omega arith) (omega arith) in
+          let depth = depth_within steps (number / 2) in
+          let double : 2 ^ suc depth ≡ 2 ^ depth * 2 = pow-suc 2 depth in
+          let next : 1 + depth ≡ suc depth = omega arith in
+          rw (depth_within-high steps number high, next) (record { low = omega arith; high = omega arith })
+    ]
+
+pub depth_of-bounds : (number : ℕ) → 0 < number → IsDepth number (depth_of number)
+unfolding depth_of
+depth_of-bounds number positive = depth_within-bounds number number (omega arith) positive
+
+pub depth_of-one : depth_of 1 ≡ 0
+depth_of-one = depth_of-is 1 0 (omega arith) (omega arith)
+
+-- a side is one deeper
+pub depth_of-side : (number side : ℕ) → 0 < number → side / 2 ≡ number → depth_of side ≡ depth_of number + 1
+depth_of-side number side positive is =
+    let depth = depth_of number in
+    let bounds = depth_of-bounds number positive in
+    let double : 2 ^ suc depth ≡ 2 ^ depth * 2 = pow-suc 2 depth in
+    let next : depth + 1 ≡ suc depth = omega arith in
+    rw next (depth_of-is side (suc depth) (omega (arith, bounds)) (omega (arith, bounds)))
+
+-- a power of two below another has the smaller exponent
+lt-pow : (i j : ℕ) → 2 ^ i < 2 ^ j → i < j
+lt-pow i j below =
+    elim (cases_lt i j) [
+      | inl less ↦ less
+      | inr more ↦ let power : 2 ^ j ≤ 2 ^ i = pow-le-pow_right (omega arith) more in absurd (omega arith)
+    ]
+
+-- a side is one lower
+pub height_of-side : (levels number side : ℕ) → 0 < number → side / 2 ≡ number → side < 2 ^ levels → height_of levels number ≡ suc (height_of levels side)
+unfolding height_of
+height_of-side levels number side positive is within =
+    let deeper = depth_of-side number side positive is in
+    let bounds = depth_of-bounds side (omega arith) in
+    let below : depth_of side < levels = lt-pow (depth_of side) levels (omega (arith, bounds)) in
+    omega arith
+
+-- a server whose left side the tree has not is a leaf
+pub height_of-leaf : (levels number : ℕ) → 0 < number → 2 ^ levels ≤ 2 * number → height_of levels number ≡ 0
+unfolding height_of
+height_of-leaf levels number positive beyond =
+    let depth = depth_of number in
+    let bounds = depth_of-bounds number positive in
+    let double : 2 ^ suc (suc depth) ≡ 2 ^ suc depth * 2 = pow-suc 2 (suc depth) in
+    let double' : 2 ^ suc depth ≡ 2 ^ depth * 2 = pow-suc 2 depth in
+    let below : levels < suc (suc depth) = lt-pow levels (suc (suc depth)) (omega (arith, bounds)) in
+    omega arith
+
+pub height_of-one : (levels : ℕ) → height_of levels 1 ≡ levels - 1
+unfolding height_of
+height_of-one levels = rw depth_of-one refl
+
+-- a tree that has the left side of a server has the right one too
+pub right_within : (levels number : ℕ) → number < 2 ^ levels → 0 < number → 2 * number < 2 ^ levels → 2 * number + 1 < 2 ^ levels
+right_within zero number within positive left = absurd (omega arith)
+right_within (suc levels) number within positive left =
+    let double : 2 ^ suc levels ≡ 2 ^ levels * 2 = pow-suc 2 levels in
+    omega arith
+
+-- ---- tree
 
 -- the steps from a server up to another
 pub record IsAbove (top number : ℕ) : Type 0 where
@@ -144,3 +241,56 @@ server-stands_in height number stands =
     let power : 2 ^ depth ≤ 2 ^ height = pow-le-pow_right (omega arith) (omega (arith, deep.0, depth_of-one)) in
     let double : 2 ^ suc height ≡ 2 ^ height * 2 = pow-suc 2 height in
     (deep.1, omega (arith, bounds))
+
+-- ---- towards
+
+pub above-itself : (number : ℕ) → IsAtOrAbove number number
+unfolding ancestor
+above-itself number = (0, refl)
+
+-- what stands at or above the parent stands above the server
+pub above-first : (above number : ℕ) → IsAtOrAbove above (number / 2) → IsAtOrAbove above number
+above-first above number found = (suc found.0, ancestor-first found.0 number ∙ found.1)
+
+pub ancestor-most : (steps number : ℕ) → ancestor steps number ≤ number
+unfolding ancestor
+ancestor-most zero number = omega arith
+ancestor-most (suc steps) number = omega (arith, ancestor-most steps number)
+
+-- no side stands at or above server 1
+pub none_above_root : (side number : ℕ) → 2 ≤ side → number < 2 → ¬ IsAtOrAbove side number
+none_above_root side number high low = λ found. omega (arith, ancestor-most found.0 number, found.1)
+
+-- a side of one server that is not at or above the parent of another, a side of a second, is not at or above that one
+pub none_above_child : (side number top : ℕ) → side / 2 ≡ top → number / 2 ≢ top → ¬ IsAtOrAbove side (number / 2) → ¬ IsAtOrAbove side number
+unfolding ancestor
+none_above_child side number top is other none = λ found. by found.0 found.1
+  where
+    by : (steps : ℕ) → ancestor steps number ≡ side → ⊥
+    by zero here = other (ap (λ n. n / 2) here ∙ is)
+    by (suc steps) here = none (steps, sym (ancestor-first steps number) ∙ here)
+
+-- ---- the three answers of `side_towards`
+
+pub found_here : (top below : Server) → below.levels ≡ top.levels → below.number / 2 ≡ top.number → IsSideTowards top below below.number
+found_here top below tree parent = record { tree = tree; parent = parent; above = above-itself below.number }
+
+pub found_higher : (top : Server) (number : ℕ) (found : Option Server) → IfSome found (λ side. IsSideTowards top side (number / 2))
+    → IfSome found (λ side. IsSideTowards top side number)
+found_higher top number None side = side
+found_higher top number (Some found) side =
+    record { tree = side.tree; parent = side.parent; above = above-first found.number number side.above }
+
+abbrev pub HasNoneTowards : ℕ → ℕ → Type 0
+HasNoneTowards top number = (¬ IsAtOrAbove (left_of top) number) × (¬ IsAtOrAbove (right_of top) number)
+
+pub none_at_root : (top number : ℕ) → 0 < top → number < 2 → HasNoneTowards top number
+none_at_root top number positive low =
+    (none_above_root (left_of top) number (omega arith) low, none_above_root (right_of top) number (omega arith) low)
+
+pub none_higher : (top number : ℕ) (found : Option Server) → number / 2 ≢ top → IfNone found (HasNoneTowards top (number / 2)) → IfNone found (HasNoneTowards top number)
+none_higher top number None other none = (
+  none_above_child (left_of top) number top (omega arith) other none.0,
+  none_above_child (right_of top) number top (omega arith) other none.1,
+)
+none_higher top number (Some found) other none = none

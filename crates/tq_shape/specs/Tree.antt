@@ -1,5 +1,6 @@
--- The shape of the tree: the servers of a tree of L levels are the numbers from 1 to 2^L - 1.
-use Rattle.std.specs.Prelude.{◌≡◌, ℕ, ◌+◌, ◌*◌, ◌/◌, ◌^◌, ◌<◌, Bool, ◌||◌, ◌==◌, zero, suc, Option}
+-- The shape of the tree: the servers of a tree of L levels are the numbers from 1 to 2^L - 1. How deep a server
+-- stands: server 1 at depth 0, and a side one deeper than its parent.
+use Rattle.std.specs.Prelude.{◌≡◌, ℕ, ◌+◌, ◌*◌, ◌/◌, ◌^◌, ◌<◌, Bool, ◌||◌, ◌==◌, zero, suc, Option, ◌-◌, cond, nat_lt}
 use Rattle.std.specs.Option.{SomeIff}
 
 -- a server of a tree: its number, and the levels of its tree
@@ -51,3 +52,22 @@ pub record IsSideTowards (top side : Server) (below : ℕ) : Type 0 where
 -- neither side of a server is another server, nor stands above it
 abbrev pub HasNoSideTowards : Server → ℕ → Type 0
 HasNoSideTowards top below = (¬ IsAtOrAbove (left_of top.number) below) × (¬ IsAtOrAbove (right_of top.number) below)
+
+-- ---- depth
+
+-- the depth, by at most as many steps to the parent as the first number says
+unfoldable pub depth_within : ℕ → ℕ → ℕ
+depth_within zero number = 0
+depth_within (suc steps) number = cond (nat_lt number 2) 0 (1 + depth_within steps (number / 2))
+
+-- how many steps to the parent lead from a server to server 1
+unfoldable pub depth_of : ℕ → ℕ
+depth_of number = depth_within number number
+
+-- how many levels stand below a server of a tree of that many levels: 0 for a leaf
+unfoldable pub height_of : ℕ → ℕ → ℕ
+height_of levels number = levels - (depth_of number + 1)
+
+-- the same, of a server of a tree
+abbrev pub height_at : Server → ℕ
+height_at server = height_of server.levels server.number

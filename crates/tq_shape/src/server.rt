@@ -2,10 +2,8 @@
 
 ghost use Rattle.std.specs.Prelude.{◌≡◌, ℕ, ◌+◌, ◌-◌, ◌*◌, ◌/◌, ◌^◌, ◌<◌, ◌≤◌, ◌↔◌, suc, IfSome, IfNone, IsTrue};
 ghost use Rattle.std.specs.Option.{SomeIff};
-ghost use Rattle.tq_shape.specs.Tree.{AnswersServer, HasNoSideTowards, IsServer, IsSideTowards};
-ghost use Rattle.tq_shape.specs.Tree.{server_numbered, left_of, right_of};
+ghost use Rattle.tq_shape.specs.Tree.{AnswersServer, HasNoSideTowards, IsServer, IsSideTowards, server_numbered, left_of, right_of, depth_of, height_at};
 ghost use Rattle.tq_shape.specs.Sides.{sides_of};
-ghost use Rattle.tq_shape.specs.Depth.{depth_of, height_at};
 
 use crate::level::Levels;
 use std::marker::Model;

@@ -3,8 +3,7 @@
 ghost use Rattle.std.specs.Prelude.{◌≡◌, ◌++◌, ◌<◌, ◌/◌, ◌%◌, ◌^◌, ◌↔◌, not, nat_eq, [], ◌∷◌, All, IfOk, IsTrue};
 ghost use Rattle.std.specs.Cmp.Lexicographic.{pointwise};
 ghost use Rattle.tq_shape.specs.Tree.{IsServer};
-ghost use Rattle.tq_shape.specs.ServerSet.{AreBelow, Ascends, has_number, have_same_numbers, servers_of_numbers, first_of};
-ghost use Rattle.tq_shape.specs.ServerSet.{set_with, set_with_last, set_without};
+ghost use Rattle.tq_shape.specs.ServerSet.{AreBelow, Ascends, has_number, have_same_numbers, servers_of_numbers, first_of, set_with, set_with_last, set_without};
 
 use crate::words::Words;
 use crate::{Levels, Memory, ServerId};

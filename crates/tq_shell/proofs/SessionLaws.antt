@@ -4,11 +4,10 @@ use Rattle.std.proofs.lemmas.List.{append-nil, length-take-le, length-drop, take
 use Rattle.std.proofs.Math.Seq.{take-add, take-append_seam}
 use Rattle.std.specs.Io.KnownBytes.{Appends, Keeps}
 use Rattle.tq_interpreter.specs.Answer.{World}
-use Rattle.tq_shell.specs.Session.{text_of, whole_text, answered_text}
+use Rattle.tq_shell.specs.Session.{text_of, whole_text, answered_text, IsRunText, IsAnswering, IsGoing}
 use Rattle.tq_shell.specs.Stream.{Received, nothing_received, received_all, answers_to, answer_to_last}
 use Rattle.std.specs.Result.{IsErrAnd}
-use Rattle.tq_devices.specs.Faults.{IsWritten}
-use Rattle.tq_shell.specs.SessionRun.{IsRunText, IsAnswering, IsGoing}
+use Rattle.tq_devices.specs.Devices.{IsWritten}
 use Rattle.tq_devices.specs.declared.fault.RunFault.{RunFault}
 use Rattle.tq_devices.specs.declared.fault.RunFault.TheVariants.{Memory, Read, Write, TooLong}
 use Rattle.tq_shell.proofs.StreamLaws.{received_all-append, answers_to-append, whole_text-answers, text_of-answers}

@@ -9,7 +9,7 @@ use Rattle.tq_syntax.specs.declared.line.Line.TheVariants.{Bad}
 use Rattle.tq_syntax.specs.Line.{line_of}
 use Rattle.tq_interpreter.specs.Answer.{World, answer}
 use Rattle.tq_syntax.specs.Word.{without_return}
-use Rattle.tq_syntax.specs.Text.{last_line, whole_parts, last_part, parts_of}
+use Rattle.tq_syntax.specs.Scripts.{last_line, whole_parts, last_part, parts_of}
 use Rattle.tq_shell.specs.Session.{lines_text, text_of, whole_text}
 use Rattle.tq_shell.specs.Stream.{Received, nothing_received, cut_line, with_piece, line_answer, received_byte, answer_to_byte, received_all, answers_to, answer_to_rest, answer_to_last}
 

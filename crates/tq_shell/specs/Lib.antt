@@ -1,13 +1,6 @@
 pub mod Session
 pub mod Stream
-pub mod SessionRun
 pub mod Reading
-pub mod Texts
-pub mod Verdicts
-pub mod Report
 pub mod Audit
-pub mod Upgrade
 pub mod Rehearsal
-pub mod Outcome
-pub mod Running
 pub mod Threads

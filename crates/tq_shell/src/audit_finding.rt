@@ -1,7 +1,7 @@
 //! What an audit finds, and its line.
 
 ghost use Rattle.std.specs.Prelude.{◌≡◌, ◌++◌, IfOk, OnOk};
-ghost use Rattle.tq_shell.specs.Texts as spec;
+ghost use Rattle.tq_shell.specs.Audit as spec;
 
 use std::alloc::Global;
 use tq_merge::Counts;

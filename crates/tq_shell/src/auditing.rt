@@ -1,14 +1,18 @@
-//! The audit of a journal file.
+//! The audit of a journal file: whether an order explains its journals.
 
-ghost use Rattle.std.specs.Prelude.{◌≡◌, ◌-◌, ◌^◌, ◌<◌, ℕ, List, IsTrue, OnOk};
+ghost use Rattle.std.specs.Prelude.{◌≡◌, ◌-◌, ◌^◌, ◌<◌, ℕ, List, IsTrue, OnOk, IfOk};
 ghost use Rattle.std.specs.Io.KnownBytes.{Appends};
-ghost use Rattle.tq_devices.specs.Faults.{IsRunCount};
-ghost use Rattle.tq_shell.specs.Audit.{IsAuditText};
+ghost use Rattle.tq_devices.specs.Devices.{IsRunCount};
+ghost use Rattle.tq_shell.specs.Audit.{IsAuditText, IsVerdict};
 
-use crate::judging::judge;
+use crate::audit_finding::AuditFinding;
 use crate::reading::read_all;
-use std::alloc::Global;
+use std::alloc::{AllocError, Global};
+use std::mem;
 use tq_devices::{RunFault, Sink, Source, write_out};
+use tq_json_read::{ReadFault, journals_from_json};
+use tq_merge::{Fault, explain};
+use tq_shape::Memory;
 
 /// Reads a journal file to its end, writes the line of what is found in it, and answers that line's status. Nothing is
 /// written where memory is refused, the source fails or the file is too long; a prefix of the line where the sink fails.
@@ -32,4 +36,27 @@ pub fn audit<R: Source, W: Sink>(
     let line = verdict.line(alloc)?;
     write_out(writer, line.as_slice())?;
     Ok(verdict.status())
+}
+
+/// What the bytes of a journal file tell: whether one sequential run explains its journals, and else why there is none. The
+/// journals are left to the end of the process, which is to come.
+pub(crate) fn judge(alloc: Global, bytes: &[u8]) -> Result<AuditFinding, Memory>
+    ensures { IfOk result (IsVerdict bytes.now) }
+{
+    let journals = match journals_from_json(alloc, bytes) {
+        Ok(journals) => journals,
+        Err(ReadFault::Memory) => return Err(AllocError),
+        Err(ReadFault::NotJson) => return Ok(AuditFinding::Unreadable),
+        Err(ReadFault::NotJournals) => return Ok(AuditFinding::Unreadable),
+    };
+    let found = explain(alloc, &journals);
+    mem::forget(journals);
+    match found {
+        Ok(order) => Ok(AuditFinding::Explained {
+            entries: order.len() as u64,
+        }),
+        Err(Fault::Memory) => Err(AllocError),
+        Err(Fault::Wrong { part, number }) => Ok(AuditFinding::Wrong { part, number }),
+        Err(Fault::Stuck { placed }) => Ok(AuditFinding::Stuck { placed }),
+    }
 }

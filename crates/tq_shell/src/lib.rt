@@ -3,13 +3,11 @@
 //! written now; lines that are answered over the journals of a file; and, handed on, the words of the command line and the
 //! devices that they read and write.
 //!
-//! Definitions: `specs/Session`, `SessionRun`, and `Stream`, the code's own word; `Running`, `Outcome`, `Threads`; `Verdicts`,
-//! `Texts`, `Report`, `Audit`, `Upgrade`, `Rehearsal`, `Reading`.
+//! Definitions: `specs/Session`, and `Stream`, the code's own word; `Threads`; `Audit`, `Reading`, `Rehearsal`.
 #![tactic(auto)]
 
 mod audit_finding;
 mod auditing;
-mod judging;
 mod line;
 mod opened;
 mod outcome;

@@ -1,7 +1,7 @@
 //! A line that is written.
 
 ghost use Rattle.std.specs.Prelude.{◌-◌, ◌^◌, ◌<◌};
-ghost use Rattle.tq_json_write.specs.Spilled.{IsWrittenOut};
+ghost use Rattle.tq_board.specs.Lines.{IsWrittenOut};
 
 use tq_devices::{RunFault, Sink, write_out};
 

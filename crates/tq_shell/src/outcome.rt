@@ -1,13 +1,13 @@
 //! What comes of client scripts.
 
 ghost use Rattle.std.specs.Prelude.{◌≡◌, ◌-◌, ◌^◌, ◌<◌};
-ghost use Rattle.tq_json_write.specs.Spilled.{IsWrittenOut};
-ghost use Rattle.tq_shell.specs.Outcome as spec;
+ghost use Rattle.tq_board.specs.Lines.{IsWrittenOut};
+ghost use Rattle.tq_shell.specs.Threads as spec;
 
 use crate::line::write_line;
 use std::alloc::Global;
+use tq_board::write_journals;
 use tq_devices::{RunFault, Sink};
-use tq_json_write::write_journals;
 use tq_tables::Journals;
 use tq_text::{say_line, say_number};
 

@@ -1,7 +1,7 @@
 //! Client scripts run from their text to their journals.
 
 ghost use Rattle.std.specs.Prelude.{◌≤◌, IfOk, vec_len};
-ghost use Rattle.tq_shell.specs.Running.{IsOutcome, IsOutcomeOf};
+ghost use Rattle.tq_shell.specs.Threads.{IsOutcome, IsOutcomeOf};
 
 use crate::outcome::Outcome;
 use std::alloc::{AllocError, Global};

@@ -2,9 +2,9 @@
 
 ghost use Rattle.std.specs.Prelude.{◌≡◌, ◌+◌, ◌-◌, ◌^◌, ◌<◌, ℕ, List, IsTrue, OnOk};
 ghost use Rattle.std.specs.Io.KnownBytes.{Appends};
-ghost use Rattle.tq_devices.specs.Faults.{IsRunCount};
+ghost use Rattle.tq_devices.specs.Devices.{IsRunCount};
 ghost use Rattle.tq_interpreter.specs.Answer.{opening};
-ghost use Rattle.tq_shell.specs.SessionRun.{IsRunText};
+ghost use Rattle.tq_shell.specs.Session.{IsRunText};
 ghost use Rattle.tq_shell.specs.Stream.{nothing_received};
 
 use crate::receiver::Receiver;

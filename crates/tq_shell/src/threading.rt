@@ -2,7 +2,7 @@
 
 ghost use Rattle.std.specs.Prelude.{◌≡◌, ◌-◌, ◌^◌, ◌<◌, ◌≤◌, ◌⊎◌, ℕ, List, IsTrue, OnOk, length};
 ghost use Rattle.std.specs.Io.KnownBytes.{Appends};
-ghost use Rattle.tq_devices.specs.Faults.{IsRunCount};
+ghost use Rattle.tq_devices.specs.Devices.{IsRunCount};
 ghost use Rattle.tq_shell.specs.Reading.{script_limit};
 ghost use Rattle.tq_shell.specs.Threads.{IsThreadsText};
 

@@ -2,19 +2,18 @@
 
 ghost use Rattle.std.specs.Prelude.{◌≡◌, ◌-◌, ◌^◌, ◌<◌, ℕ, List, IfOk, IsTrue, OnOk};
 ghost use Rattle.std.specs.Io.KnownBytes.{Appends};
-ghost use Rattle.tq_devices.specs.Faults.{IsRunCount};
-ghost use Rattle.tq_json_write.specs.Spilled.{IsWrittenOut};
-ghost use Rattle.tq_shell.specs.Texts.{verdict_line};
-ghost use Rattle.tq_shell.specs.Upgrade.{IsFound, IsUpgradeText, found_line, found_status};
+ghost use Rattle.tq_devices.specs.Devices.{IsRunCount};
+ghost use Rattle.tq_board.specs.Lines.{IsWrittenOut};
+ghost use Rattle.tq_shell.specs.Audit.{verdict_line, IsFound, IsUpgradeText, found_line, found_status};
 
 use crate::audit_finding::AuditFinding;
 use crate::line::write_line;
 use crate::reading::read_all;
 use std::alloc::{AllocError, Global};
 use std::mem;
+use tq_board::write_journals;
 use tq_devices::{RunFault, Sink, Source};
 use tq_json_read::{ReadFault, journals_from_json};
-use tq_json_write::write_journals;
 use tq_shape::Memory;
 use tq_tables::Journals;
 

@@ -1,15 +1,52 @@
--- What the copies are after one comes, file by file.
-use Rattle.std.proofs.Common.{◌≡◌, ◌≢◌, ℕ, ◌<◌, ◌≤◌, Bool, true, false, cond, List, [], ◌∷◌, Option, Some, None, refl, ap, sym, subst, ◌∙◌, arith, nat_lt}
-use Rattle.std.proofs.lemmas.Bool.Decides.{nat_tests}
+-- A map's entries, as the finite map that contracts see. What the copies are after one comes, file by file. The copies
+-- where one was put in, and the one that it replaced was looked at, and put back where it is no older.
+use Rattle.std.proofs.Common.{◌≡◌, ℕ, cond, List, [], ◌∷◌, Some, nat_eq, ◌<◌, ◌≤◌, arith, refl, ap, sym, subst, ◌∙◌, ◌≢◌, Bool, true, false, Option, None, nat_lt}
 use Rattle.std.specs.Cmp.{eq_by_cmp_equiv}
-use Rattle.std.specs.Cmp.Lexicographic.{nat_list_cmp_total}
-use Rattle.std.specs.FinMap as fin
-use Rattle.std.specs.FinMap.{nat_cmp-IsAntisymmetric, slice_cmp-IsAntisymmetric}
+use Rattle.std.specs.Cmp.Lexicographic.{pointwise, nat_list_cmp_total, nat_list_eq_equiv, texts_ties}
+use Rattle.std.specs.FinMap.{find, get, insert, from_entries, get-from_entries, get-insert, same_map, nat_cmp-IsAntisymmetric, slice_cmp-IsAntisymmetric}
 use Rattle.std.specs.Ordering.{eq_by_cmp}
-use Rattle.tq_shape.proofs.Orderings.{is_eq-Equal}
+use Rattle.std.specs.Map.{lookup, set_value}
+use Rattle.std.specs.Option.{IsSome}
+use Rattle.std.proofs.lemmas.Map.{lookup-set_value}
+use Rattle.tq_store.specs.Copies.{name_cmp, Files, copy_of, copies_after_install, Installs, OnlyRises, copy_at, copy_in, installed_all}
 use Rattle.tq_store.specs.declared.copies.FileCopy.{FileCopy}
+use Rattle.std.proofs.lemmas.Bool.Decides.{nat_tests}
+use Rattle.std.specs.FinMap as fin
+use Rattle.tq_shape.proofs.Options.{is_eq-Equal}
 use Rattle.tq_store.specs.declared.write.Write.{Write}
-use Rattle.tq_store.specs.Copies.{Files, Installs, OnlyRises, name_cmp, copy_at, copy_of, copy_in, copies_after_install, installed_all}
+use Rattle.std.proofs.lemmas.Map.Steps.{set_value_same}
+
+module _ {X : Type 0} where
+  find_name : (es : List (List ℕ × X)) (q : List ℕ) → find name_cmp q es ≡ lookup (pointwise nat_eq q) es
+  find_name [] q = refl
+  find_name (e ∷ es) q =
+      ap (λ b. cond b (Some e.1) (find name_cmp q es)) (sym (texts_ties q e.0))
+      ∙ ap (cond (pointwise nat_eq q e.0) (Some e.1)) (find_name es q)
+
+  -- what the finite map has at a name
+  pub get_name : (es : List (List ℕ × X)) (q : List ℕ) → get (from_entries {R = name_cmp} es) q ≡ lookup (pointwise nat_eq q) es
+  get_name es q = get-from_entries nat_list_cmp_total es q ∙ find_name es q
+
+  -- entries that differ at one name make maps that differ there
+  pub one_given : (es fs : List (List ℕ × X)) (name : List ℕ) (x : X) → ((q : List ℕ) → lookup (pointwise nat_eq q) fs ≡ cond (pointwise nat_eq name q) (Some x) (lookup (pointwise nat_eq q) es)) → from_entries {R = name_cmp} fs ≡ insert (from_entries es) name x
+  one_given es fs name x h = same_map nat_list_cmp_total (slice_cmp-IsAntisymmetric nat_cmp-IsAntisymmetric) _ _ (λ q.
+      get_name fs q ∙ h q
+      ∙ ap (λ b. cond b (Some x) (lookup (pointwise nat_eq q) es)) (texts_ties name q ∙ (eq_by_cmp_equiv nat_list_cmp_total).symm name q)
+      ∙ sym (get-insert nat_list_cmp_total (from_entries es) name x q ∙ ap (cond (eq_by_cmp name_cmp q name) (Some x)) (get_name es q)))
+
+  -- a value that is written over that of a name makes the map in which the name has it
+  pub one_written : (es : List (List ℕ × X)) (name : List ℕ) (had x : X) → lookup (pointwise nat_eq name) es ≡ Some had → from_entries {R = name_cmp} (set_value (pointwise nat_eq name) es x) ≡ insert (from_entries es) name x
+  one_written es name had x found = one_given es _ name x (λ q. lookup-set_value nat_list_eq_equiv (pointwise nat_eq name) (nat_list_eq_equiv.congr name) q x es (subst IsSome (sym found) refl))
+
+-- a greater version is put in
+pub installed-greater : (files : Files) (name : List ℕ) (copy : FileCopy) → (copy_of files name).version < copy.version → insert files name copy ≡ copies_after_install files name copy
+installed-greater files name copy h = grind (arith, nat_tests, h)
+
+-- one that is no greater is not
+pub installed-no_greater : (files : Files) (name : List ℕ) (copy : FileCopy) → copy.version ≤ (copy_of files name).version → files ≡ copies_after_install files name copy
+installed-no_greater files name copy h = grind (arith, nat_tests, h)
+
+-- ---- installed
 
 -- what a file has after a copy comes
 abbrev pub arrives : Option FileCopy → FileCopy → Option FileCopy
@@ -85,3 +122,41 @@ Installs-installed files name copy = record {
   no_newer = λ h. copy_of-own files name copy ∙ arrives-no_newer (fin.get files name) copy h;
   others = λ other h. copy_of-other files name copy other (eq_by_cmp name_cmp other name) refl h;
 }
+
+-- ---- replaced
+
+twice : {X : Type 0} (b : Bool) (x y z : X) → cond b x (cond b y z) ≡ cond b x z
+twice true x y z = refl
+twice false x y z = refl
+
+-- what a file had before, in the entries that the map was made of
+module _ (es : List (List ℕ × FileCopy)) (name : List ℕ) (copy : FileCopy) (had : Option FileCopy) (found : lookup (pointwise nat_eq name) es ≡ had) where
+  copy-had : copy_of (from_entries es) name ≡ copy_at had
+  copy-had = ap copy_at (get_name es name ∙ found)
+
+  pub is-newer : (copy_at had).version < copy.version → true ≡ nat_lt (copy_of (from_entries es) name).version copy.version
+  is-newer less = sym (lt-true _ _ (subst (λ (h : FileCopy). h.version < copy.version) (sym copy-had) less))
+
+  pub is-no_newer : copy.version ≤ (copy_at had).version → false ≡ nat_lt (copy_of (from_entries es) name).version copy.version
+  is-no_newer less = sym (lt-false _ _ (subst (λ (h : FileCopy). copy.version ≤ h.version) (sym copy-had) less))
+
+  pub put-in : (fs : List (List ℕ × FileCopy)) → ((q : List ℕ) → lookup (pointwise nat_eq q) fs ≡ cond (pointwise nat_eq name q) (Some copy) (lookup (pointwise nat_eq q) es))
+      → (copy_at had).version < copy.version → from_entries fs ≡ copies_after_install (from_entries es) name copy
+  put-in fs put less =
+      one_given es fs name copy put
+      ∙ installed-greater (from_entries es) name copy (subst (λ (h : FileCopy). h.version < copy.version) (sym copy-had) less)
+
+-- the one that was there is put back
+pub put-back : (es fs : List (List ℕ × FileCopy)) (name : List ℕ) (copy before : FileCopy) → lookup (pointwise nat_eq name) es ≡ Some before
+    → ((q : List ℕ) → lookup (pointwise nat_eq q) fs ≡ cond (pointwise nat_eq name q) (Some copy) (lookup (pointwise nat_eq q) es))
+    → lookup (pointwise nat_eq name) fs ≡ Some copy → copy.version ≤ before.version
+    → from_entries (set_value (pointwise nat_eq name) fs before) ≡ copies_after_install (from_entries es) name copy
+put-back es fs name copy before found put stands less =
+    let again : from_entries (set_value (pointwise nat_eq name) fs before) ≡ insert (from_entries es) name before =
+    one_given es (set_value (pointwise nat_eq name) fs before) name before (λ q.
+    lookup-set_value nat_list_eq_equiv (pointwise nat_eq name) (nat_list_eq_equiv.congr name) q before fs (subst IsSome (sym stands) refl)
+    ∙ ap (cond (pointwise nat_eq name q) (Some before)) (put q)
+    ∙ twice (pointwise nat_eq name q) (Some before) (Some copy) (lookup (pointwise nat_eq q) es)) in
+    let same : insert (from_entries es) name before ≡ from_entries es =
+    sym (one_written es name before before found) ∙ ap (λ entries. from_entries entries) (set_value_same (pointwise nat_eq name) es before found) in
+    again ∙ same ∙ installed-no_greater (from_entries es) name copy (subst (λ (h : FileCopy). copy.version ≤ h.version) (sym (copy-had es name copy (Some before) found)) less)

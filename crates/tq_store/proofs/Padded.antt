@@ -1,15 +1,19 @@
--- A name filled up with zeros: the name that it holds, and how such names compare.
+-- A name filled up with zeros: the name that it holds, and how such names compare. The bytes of a name are ASCII, so
+-- that a name is text. Names that the test finds the same are the same.
 use Rattle.std.proofs.Common.{◌≡◌, ℕ, zero, suc, ◌+◌, ◌-◌, ◌<◌, ◌≤◌, List, [], ◌∷◌, ◌++◌, length, take, replicate, Bool, true, cond, ◌&&◌, ◌==◌, refl, ap, sym, ◌∙◌, arith, IsTrue, nat_le, slice_index, length-append}
-use Rattle.std.specs.Prelude.{not}
+use Rattle.std.specs.Prelude.{not, Result, Ok, Err, IsOk, MatchResult}
 use Rattle.std.specs.declared.cmp.Ordering.TheVariants.{Less, Equal, Greater}
 use Rattle.std.proofs.lemmas.List.{length-replicate}
 use Rattle.std.proofs.lemmas.Bool.Decides.{nat_tests}
 use Rattle.std.proofs.Math.Seq.{take-append_seam}
-use Rattle.std.specs.Cmp.{nat_cmp_is}
-use Rattle.std.specs.Cmp.Lexicographic.{slice_cmp}
+use Rattle.std.specs.Cmp.{nat_cmp_is, nat_eq_equiv}
+use Rattle.std.specs.Cmp.Lexicographic.{slice_cmp, lists_equiv, same_text}
 use Rattle.std.specs.List.{list_all, position_or_len}
 use Rattle.std.specs.Ordering.{nat_cmp, ordering_then}
-use Rattle.tq_store.specs.Names.{is_file_name, is_name_byte, name_in, padded_name, starts_with_letter}
+use Rattle.tq_store.specs.Names.{is_file_name, is_name_byte, name_in, padded_name, starts_with_letter, same_name}
+use Rattle.std.proofs.lemmas.Str.Ascii.{IsAscii-cons, IsAscii-nil}
+use Rattle.std.specs.Str.{IsAscii, IsUtf8}
+use Rattle.std.proofs.lemmas.Str.{IsUtf8-from_ascii}
 
 pub both : (a b : Bool) → (a && b) ≡ true → (a ≡ true) × (b ≡ true)
 both a b h = grind (arith, nat_tests, h)
@@ -98,3 +102,30 @@ padded_cmp a b ha hb =
     let fits_a = fits_name a ha in
     let fits_b = fits_name b hb in
     filled_cmp a b (32 - length a) (32 - length b) (bytes_of_name a ha) (bytes_of_name b hb) (omega (arith, fits_a, fits_b))
+
+-- ---- ascii
+
+ascii_bytes : (name : List ℕ) → list_all is_name_byte name ≡ true → IsAscii name
+ascii_bytes [] h = IsAscii-nil
+ascii_bytes (c ∷ rest) h =
+    let parts = both (is_name_byte c) (list_all is_name_byte rest) h in
+    IsAscii-cons c rest (byte_of_name c parts.0).1 (ascii_bytes rest parts.1)
+
+pub IsUtf8-name : (name : List ℕ) → IsTrue (is_file_name name) → IsUtf8 name
+IsUtf8-name name h = IsUtf8-from_ascii name (ascii_bytes name (bytes_of_name name h))
+
+-- a call that fails only where a fact doesn't hold
+pub succeeds : {T E : Type 0} (r : Result T E) (P : T → Type 0) (U : Type 0) (Q : E → Type 0) → MatchResult r P (λ e. (U → ⊥) × Q e) → U → IsOk r
+succeeds (Ok x) P U Q h u = refl
+succeeds (Err e) P U Q h u = absurd (h.0 u)
+
+-- ---- same name
+
+pub same_name-is : (a b : List ℕ) → same_name a b ≡ true → a ≡ b
+same_name-is a b h = same_text a b (sym h)
+
+pub same_name-refl : (a : List ℕ) → same_name a a ≡ true
+same_name-refl a = (lists_equiv nat_eq_equiv).refl a
+
+pub same_name-sym : (a b : List ℕ) → same_name a b ≡ same_name b a
+same_name-sym a b = (lists_equiv nat_eq_equiv).symm a b

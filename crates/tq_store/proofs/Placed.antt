@@ -1,21 +1,63 @@
--- The place of a key in a list of keys, and how an ordered map keeps it.
-use Rattle.std.proofs.Common.{◌≡◌, ◌≢◌, Result, Ok, Err, OnErr, IsOk, drop, take-append-drop, ◌+◌, ◌-◌, ◌<◌, ◌≤◌, ℕ, Bool, true, false, cond, List, [], ◌∷◌, ◌++◌, length, get_or, take, Option, Some, None, position, nat_lt, refl, sym, ap, ◌∙◌, true≢false, is_some, unwrap_or, arith, inl, inr, lt-ltb, le-ltb, ltb-true, ltb-false, take_all, length-take-le, get_or-take, is_eq, length-append}
+-- What the two columns of an `Ordered` are to its value. The place of a key in a list of keys, and how an ordered map
+-- keeps it.
+use Rattle.std.proofs.Common.{◌≡◌, ◌-◌, ◌<◌, ℕ, Bool, List, swap_remove, arith, subst, length, min, sym, ap, ◌∙◌, Vec, zip, ◌≢◌, Result, Ok, Err, OnErr, IsOk, drop, take-append-drop, ◌+◌, ◌≤◌, true, false, cond, [], ◌∷◌, ◌++◌, get_or, take, Option, Some, None, position, nat_lt, refl, true≢false, is_some, unwrap_or, inl, inr, lt-ltb, le-ltb, ltb-true, ltb-false, take_all, length-take-le, get_or-take, is_eq, length-append}
+use Rattle.std.specs.Prelude.{⊤}
+use Rattle.std.specs.Map.{keys_of, values_of, lookup}
+use Rattle.indexmap.specs.IndexMap.{IndexMap, spare}
+use Rattle.std_collections.proofs.Zip.{length-zip_even, keys_of-zip, values_of-zip, zip-swap_remove}
+use Rattle.std_collections.proofs.HashLookup.{distinct_swap_remove, length-swap_remove}
+use Rattle.std.specs.Cmp.{IsEquivalence}
+use Rattle.std.specs.List.{IsDistinct, position_or_len}
+use Rattle.tq_store.specs.Bounded.{with_spare, ArePlaced}
 use Rattle.indexmap.proofs.MapLemmas.{distinct_from_apart, some_index}
 use Rattle.std.proofs.lemmas.Bool.Decides.{eqb_tells}
 use Rattle.std.proofs.lemmas.Grind.{get_or-set_at}
 use Rattle.std.proofs.lemmas.List.{get_or_default, take_more, get_or_push, get_or_append_left, get_or-set_other, take-append-le}
-use Rattle.std_collections.proofs.HashLookup.{length-swap_remove}
-use Rattle.tq_store.proofs.Opened.{distinct_removed}
 use Rattle.std.proofs.lemmas.List.Sums.{position_or_len_is, fails_before_first, passes_at_first}
 use Rattle.std.proofs.lemmas.Map.Keys.{apart_from_distinct}
 use Rattle.std.proofs.Math.Decide.{dec_lt}
-use Rattle.std.specs.Cmp.{IsEquivalence}
 use Rattle.std.specs.declared.cmp.Ordering.{Ordering}
-use Rattle.std.specs.List.{IsDistinct, position_or_len, swap_remove}
-use Rattle.std.specs.Map.{keys_of, lookup}
 use Rattle.std.specs.BTreeMap as ordered
 use Rattle.std.specs.BTreeMap.{BTreeMap, is_at}
-use Rattle.tq_store.specs.Bounded.{ArePlaced}
+
+module _ {K V Z : Type 0} where
+  pub record Opened (ks : Vec K Z) (vs : Vec V Z) (m : IndexMap K V ⊤) : Type 0 where
+    pub entries : zip ks.items vs.items ≡ m.entries
+    pub spare : min ks.cap vs.cap - length ks.items ≡ spare m
+    pub keys : ks.items ≡ keys_of m.entries
+    pub values : vs.items ≡ values_of m.entries
+    pub keys_length : length ks.items ≡ length m.entries
+    pub values_length : length vs.items ≡ length m.entries
+    pub keys_len : ks.len ≡ length m.entries
+    pub values_len : vs.len ≡ length m.entries
+
+  -- from the view's equation and the invariant
+  pub opened : (ks : Vec K Z) (vs : Vec V Z) (m : IndexMap K V ⊤) → with_spare (zip ks.items vs.items) (min ks.cap vs.cap - length ks.items) ≡ m
+      → length vs.items ≡ length ks.items → Opened ks vs m
+  opened ks vs m p even =
+      let e : zip ks.items vs.items ≡ m.entries = ap (λ r. r.entries) p in
+      let n : length ks.items ≡ length m.entries = sym (length-zip_even ks.items vs.items even) ∙ ap length e in
+      record {
+        entries = e;
+        spare = ap spare p;
+        keys = sym (keys_of-zip ks.items vs.items even) ∙ ap keys_of e;
+        values = sym (values_of-zip ks.items vs.items even) ∙ ap values_of e;
+        keys_length = n;
+        values_length = even ∙ n;
+        keys_len = ks.ok.0 ∙ n;
+        values_len = vs.ok.0 ∙ even ∙ n;
+      }
+
+-- keys that differ, and one that is taken out
+pub distinct_removed : {K V : Type 0} {eq : K → K → Bool} → IsEquivalence eq → (ks : List K) (vs : List V) (i : ℕ) (k : K) (v : V) → length vs ≡ length ks → i < length ks → IsDistinct eq ks
+    → IsDistinct eq (swap_remove ks i k)
+distinct_removed {eq = eq} laws ks vs i k v even within distinct =
+    let after : length (swap_remove vs i v) ≡ length (swap_remove ks i k) = omega (arith, length-swap_remove ks i k within, length-swap_remove vs i v (omega (arith, within, even)), even) in
+    let inside : i < length (zip ks vs) = omega (arith, within, length-zip_even ks vs even) in
+    subst (IsDistinct eq) (ap keys_of (sym (zip-swap_remove ks vs i k v even)) ∙ keys_of-zip (swap_remove ks i k) (swap_remove vs i v) after)
+    (distinct_swap_remove eq laws (zip ks vs) i (k, v) inside (subst (IsDistinct eq) (sym (keys_of-zip ks vs even)) distinct))
+
+-- ---- placed
 
 module _ {K : Type 0} (t : K → Bool) where
   -- the first key that passes has the place

@@ -5,8 +5,7 @@ ghost use Rattle.std.specs.List.{swap_remove, IsDistinct};
 ghost use Rattle.indexmap.specs.IndexMap.{get, index_map_len, keys, spare, swap_remove_entry, values, with_value_at, IsClone, IsUnchanged, IsUnique, Updates};
 ghost use Rattle.std.specs.Map.Iter.{deref_pair};
 ghost use Rattle.std.specs.Option.{option_copied, option_copied_mut, option_map};
-ghost use Rattle.tq_store.specs.Bounded.{ArePlaced, HasEntryAt, HasOneLessIfThere, HasOneMoreIfNew, HasPut};
-ghost use Rattle.tq_store.specs.Bounded.{with_last, with_spare};
+ghost use Rattle.tq_store.specs.Bounded.{ArePlaced, HasEntryAt, HasOneLessIfThere, HasOneMoreIfNew, HasPut, with_last, with_spare};
 ghost use Rattle.tq_store.specs.Lends.{lends_value, ordered_lends_at, ordered_lends_get};
 
 use std::alloc::{AllocError, Global};

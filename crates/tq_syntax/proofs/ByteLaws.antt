@@ -5,12 +5,11 @@ use Rattle.std.proofs.lemmas.List.Splits.{length-slice_split}
 use Rattle.std.proofs.lemmas.Bool.{cases_lt, ne_eqb}
 use Rattle.std.proofs.Math.Seq.{take-suc}
 use Rattle.std.specs.List.{onto_first, slice_range}
-use Rattle.tq_syntax.specs.Text.{last_part, parts_of, whole_parts}
+use Rattle.tq_syntax.specs.Scripts.{last_part, parts_of, whole_parts, last_by}
 use Rattle.tq_syntax.specs.Word.{without_return}
 use Rattle.tq_syntax.specs.ClientLine.{client_line_of}
 use Rattle.tq_syntax.specs.declared.client.ClientLine.{ClientLine}
 use Rattle.tq_syntax.specs.declared.client.ClientLine.TheVariants.{Bad}
-use Rattle.tq_syntax.specs.Scripts.{last_by}
 
 -- the first part goes on from what came before it
 abbrev onto_parts : List ℕ → List (List ℕ) → List (List ℕ)

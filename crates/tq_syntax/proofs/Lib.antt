@@ -1,5 +1,3 @@
 mod WordLaws
-mod NumberLaws
 mod GatheringLaws
 mod ByteLaws
-mod ReadLaws

@@ -1,8 +1,7 @@
 -- What the bytes of a line of client scripts ask for: what a client says, or that the next client's script begins.
 use Rattle.std.specs.Prelude.{ℕ, nat_lt, ◌==◌, cond, List, Option, None, length, codes, option_map, unwrap_or}
 use Rattle.std.specs.Str.{bytes_eq}
-use Rattle.tq_syntax.specs.Word.{word_of, rest_of}
-use Rattle.tq_syntax.specs.Operands.{nothing_in, one_number, cost_words, chosen_for, file_of, written_of}
+use Rattle.tq_syntax.specs.Word.{word_of, rest_of, nothing_in, one_number, cost_words, chosen_for, file_of, written_of}
 use Rattle.tq_syntax.specs.declared.script.Line.{Line}
 use Rattle.tq_syntax.specs.declared.script.Line.TheVariants.{Cost, Down, Up, Choose, Begin, Read, Write, Commit, Abort}
 use Rattle.tq_syntax.specs.declared.client.ClientLine.{ClientLine}

@@ -1,8 +1,11 @@
--- What is gathered of the lines of client scripts, line by line.
-use Rattle.std.specs.Prelude.{nat_lt, cond, List, [], ◌∷◌, ◌++◌, length, Option, Some, None}
+-- What is gathered of the lines of client scripts, line by line. How a line more ends, and how the last does.
+use Rattle.std.specs.Prelude.{nat_lt, cond, List, [], ◌∷◌, ◌++◌, length, Option, Some, None, ◌≡◌, ◌<◌, ℕ, Result, Ok, Err}
 use Rattle.tq_syntax.specs.declared.client.ClientLine.{ClientLine}
 use Rattle.tq_syntax.specs.declared.client.ClientLine.TheVariants as line
 use Rattle.tq_syntax.specs.declared.script.Line.{Line}
+use Rattle.std.specs.Global.{Vec}
+use Rattle.tq_syntax.specs.declared.fault.ScriptFault.{ScriptFault}
+use Rattle.tq_syntax.specs.declared.fault.ScriptFault.TheVariants.{Memory, Bad}
 
 -- the scripts that ended, and what the client whose script goes on has said
 pub record Gathering : Type 0 where
@@ -39,3 +42,17 @@ gathered_with gathering line.Empty = Some gathering
 gathered_with gathering line.Bad = None
 gathered_with gathering line.Client = next_client gathering
 gathered_with gathering (line.Said said) = said_more gathering said
+
+-- ---- gathered
+
+-- the line of this number may come, and this is gathered with it; or it is bad
+abbrev pub IsGatheredWith : Gathering → ClientLine → ℕ → Result Gathering ScriptFault → Type 0
+IsGatheredWith gathering line number (Ok gathered) = gathered_with gathering line ≡ Some gathered
+IsGatheredWith gathering line number (Err Memory) = Unit {0}
+IsGatheredWith gathering line number (Err (Bad bad)) = (gathered_with gathering line ≡ None) × (bad ≡ number)
+
+-- these are the scripts, or there is none
+abbrev pub IsFinished : Gathering → Result (Vec (List Line)) ScriptFault → Type 0
+IsFinished gathering (Ok scripts) = (scripts.items ≡ scripts_so_far gathering) × (0 < length (scripts_so_far gathering))
+IsFinished gathering (Err Memory) = Unit {0}
+IsFinished gathering (Err (Bad bad)) = (scripts_so_far gathering ≡ []) × (bad ≡ 1)

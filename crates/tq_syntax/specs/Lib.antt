@@ -1,8 +1,5 @@
 pub mod Word
-pub mod Operands
 pub mod Line
 pub mod ClientLine
-pub mod Text
-pub mod Gathering
-pub mod Gathered
 pub mod Scripts
+pub mod Gathering

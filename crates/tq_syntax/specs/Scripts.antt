@@ -1,15 +1,44 @@
--- What a text of client scripts says: the script of each client, or the first line that is bad.
-use Rattle.std.specs.Prelude.{◌≡◌, ◌⊎◌, ◌<◌, ℕ, suc, Bool, true, false, ◌&&◌, nat_lt, nat_le, List, [], ◌∷◌, ◌++◌, map, length, take, Result, Ok, Err}
-use Rattle.std.specs.List.{list_all}
+-- The lines of bytes. What a text of client scripts says: the script of each client, or the first line that is bad.
+use Rattle.std.specs.Prelude.{ℕ, ◌==◌, List, [], ◌∷◌, ◌++◌, ◌≡◌, ◌⊎◌, ◌<◌, suc, Bool, true, false, ◌&&◌, nat_lt, nat_le, map, length, take, Result, Ok, Err}
+use Rattle.std.specs.List.{slice_split, list_all}
+use Rattle.tq_syntax.specs.Word.{without_return}
 use Rattle.std.specs.Global.{Vec}
 use Rattle.tq_shape.specs.Journal.{is_empty}
-use Rattle.tq_syntax.specs.Text.{last_line, last_part, parts_of, whole_lines}
 use Rattle.tq_syntax.specs.ClientLine.{client_line_of}
 use Rattle.tq_syntax.specs.declared.client.ClientLine.{ClientLine}
 use Rattle.tq_syntax.specs.declared.client.ClientLine.TheVariants as line
 use Rattle.tq_syntax.specs.declared.script.Line.{Line}
 use Rattle.tq_syntax.specs.declared.fault.ScriptFault.{ScriptFault}
 use Rattle.tq_syntax.specs.declared.fault.ScriptFault.TheVariants.{Memory, Bad}
+
+-- what stands after the last line feed is a line if it has a byte
+abbrev pub last_line : List ℕ → List (List ℕ)
+last_line [] = []
+last_line (byte ∷ bytes) = (byte ∷ bytes) ∷ []
+
+-- the parts between line feeds: each is a line but the last
+abbrev pub whole_parts : List (List ℕ) → List (List ℕ)
+whole_parts [] = []
+whole_parts (part ∷ []) = []
+whole_parts (part ∷ next ∷ parts) = without_return part ∷ whole_parts (next ∷ parts)
+
+abbrev pub last_part : List (List ℕ) → List ℕ
+last_part [] = []
+last_part (part ∷ []) = part
+last_part (part ∷ next ∷ parts) = last_part (next ∷ parts)
+
+abbrev pub parts_of : List ℕ → List (List ℕ)
+parts_of bytes = slice_split (λ byte. byte == 10) bytes
+
+-- the lines that a line feed ends
+abbrev pub whole_lines : List ℕ → List (List ℕ)
+whole_lines bytes = whole_parts (parts_of bytes)
+
+-- all lines
+abbrev pub lines_of : List ℕ → List (List ℕ)
+lines_of bytes = whole_lines bytes ++ last_line (last_part (parts_of bytes))
+
+-- ---- scripts
 
 -- what a line says to the client whose script it stands in. An empty one says nothing, nor does one that is no line of a client
 abbrev pub said_by : ClientLine → List Line

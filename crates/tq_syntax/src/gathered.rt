@@ -2,8 +2,7 @@
 
 ghost use Rattle.std.specs.Prelude.{◌≡◌, IfOk};
 ghost use Rattle.tq_syntax.specs.ClientLine.{client_line_of};
-ghost use Rattle.tq_syntax.specs.Gathering.{gathered_with, next_client, nothing_gathered, said_more, scripts_so_far};
-ghost use Rattle.tq_syntax.specs.Gathered.{IsFinished, IsGatheredWith};
+ghost use Rattle.tq_syntax.specs.Gathering.{gathered_with, next_client, nothing_gathered, said_more, scripts_so_far, IsFinished, IsGatheredWith};
 
 use crate::client::ClientLine;
 use crate::fault::ScriptFault;

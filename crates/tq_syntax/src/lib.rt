@@ -1,7 +1,7 @@
 //! What the bytes of lines ask for, and the scripts that texts of clients' lines hold.
 //!
-//! Definitions: `specs/Line`, `ClientLine`, `Operands`, `Word`; `Text` the lines of bytes, `Scripts` the scripts of lines.
-//! `Gathering` and `Gathered` are the code's own words.
+//! Definitions: `specs/Line`, `ClientLine`, `Word`; `Scripts` the lines of bytes and the scripts of lines. `Gathering` is the
+//! code's own word.
 #![tactic(auto)]
 
 mod client;

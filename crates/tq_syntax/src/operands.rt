@@ -2,7 +2,7 @@
 
 ghost use Rattle.std.specs.Prelude.{◌≡◌, IfOk, option_map};
 ghost use Rattle.std.specs.List.{list_all};
-ghost use Rattle.tq_syntax.specs.Operands as spec;
+ghost use Rattle.tq_syntax.specs.Word as spec;
 ghost use Rattle.tq_syntax.specs.Word.{options_now, number_of};
 
 use crate::word::{first_word, is_same, number_of};

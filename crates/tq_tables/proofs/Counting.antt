@@ -21,11 +21,10 @@ use Rattle.tq_desk.specs.DeskStep.{with_files}
 use Rattle.tq_desk.specs.DeskJournal.{Commit, DeskEntry, commits, count, count_one, with_commit}
 use Rattle.tq_evidence.specs.Evidence.{writes_file}
 use Rattle.tq_desk.specs.DecisionLog.{is_written}
-use Rattle.tq_store.proofs.SameName.{same_name-is, same_name-refl, same_name-sym}
-use Rattle.tq_desk.proofs.WrittenNames.{written-is}
-use Rattle.tq_tables.specs.Rows.{files_in, files_of}
-use Rattle.tq_tables.specs.Counted.{commit_counts, count_in, names_of, with_one, with_each}
-use Rattle.tq_tables.proofs.Names.{is_in, Apart, or_parts, or-false, either, or_comm, filter_agree, without, without-more, is_in-filter, Apart-filter, Apart-append, Apart-keys}
+use Rattle.tq_store.proofs.Padded.{same_name-is, same_name-refl, same_name-sym}
+use Rattle.tq_desk.proofs.NewFiles.{written-is}
+use Rattle.tq_tables.specs.Rows.{files_in, files_of, commit_counts, count_in, names_of, with_one, with_each}
+use Rattle.tq_tables.proofs.Kept.{is_in, Apart, or_parts, or-false, either, or_comm, filter_agree, without, without-more, is_in-filter, Apart-filter, Apart-append, Apart-keys}
 
 -- ---- names listed with a number each
 

@@ -13,17 +13,14 @@ use Rattle.tq_store.specs.Copies.{copy_at, copy_of, name_cmp}
 use Rattle.tq_store.specs.declared.write.Write.{Write}
 use Rattle.tq_store.specs.Names.{same_name}
 use Rattle.tq_store.specs.declared.copies.FileCopy.{FileCopy}
-use Rattle.tq_store.proofs.SameName.{same_name-is}
+use Rattle.tq_store.proofs.Padded.{same_name-is}
 use Rattle.tq_node.specs.Node.{NodeView}
 use Rattle.tq_tables.specs.declared.file_row.FileRow.{FileRow}
 use Rattle.tq_tables.specs.declared.holders.Holders.{Holders}
-use Rattle.tq_tables.specs.Early.{AreHolders, HaveRows, OthersLack, has_row, held_by}
-use Rattle.tq_tables.specs.Files.{all_stood, names_in, stood_at, with_row, with_rows}
-use Rattle.tq_tables.specs.NamesApart.{is_in}
+use Rattle.tq_tables.specs.Files.{AreHolders, HaveRows, OthersLack, has_row, held_by, all_stood, names_in, stood_at, with_row, with_rows}
+use Rattle.tq_tables.specs.Rows.{is_in, has_version, servers_where}
 use Rattle.tq_tables.specs.Parts.{AreOfTree, node_after_all, nodes_at}
-use Rattle.tq_tables.specs.Rows.{has_version, servers_where}
-use Rattle.tq_tables.proofs.Kept.{names-stood}
-use Rattle.tq_tables.proofs.Names.{or_parts}
+use Rattle.tq_tables.proofs.Kept.{names-stood, or_parts}
 use Rattle.tq_tables.proofs.RowLaws.{at-place, take-next}
 use Rattle.tq_tables.proofs.Stood.{eq-self, same-set, those}
 

@@ -1,15 +1,12 @@
-pub mod Names
+pub mod Kept
 pub mod Counting
 pub mod RowLaws
-pub mod Replayed
-pub mod Whole
+pub mod Restood
 pub mod Noted
-pub mod Kept
 mod Placed
 pub mod Stood
 pub mod Written
-pub mod Restood
 pub mod Held
 pub mod Settled
-pub mod Beside
 pub mod Again
+pub mod Equal

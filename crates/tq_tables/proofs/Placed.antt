@@ -7,11 +7,11 @@ use Rattle.std.proofs.lemmas.List.Elements.{All-head, All-tail}
 use Rattle.std.proofs.lemmas.Option.{same_Some}
 use Rattle.indexmap.specs.IndexMap.{set_value_at}
 use Rattle.tq_store.specs.Names.{same_name}
-use Rattle.tq_store.proofs.SameName.{same_name-is, same_name-refl}
+use Rattle.tq_store.proofs.Padded.{same_name-is, same_name-refl}
 use Rattle.tq_node.specs.Node.{NodeView}
 use Rattle.tq_tables.specs.declared.file_row.FileRow.{FileRow}
 use Rattle.tq_tables.specs.Files.{AreFiles, AreOfLevels, names_in, row_by_copy, stood_at, IsOfLevels, by_file, HasRowAt}
-use Rattle.tq_tables.specs.NamesApart.{is_in, Apart}
+use Rattle.tq_tables.specs.Rows.{is_in, Apart}
 use Rattle.tq_tables.proofs.Kept.{file-found, absent-stood, stood-file}
 
 -- ---- an entry by its place

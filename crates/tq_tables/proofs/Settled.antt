@@ -10,10 +10,9 @@ use Rattle.tq_shape.specs.Tree.{Server}
 use Rattle.tq_store.specs.Copies.{copy_of}
 use Rattle.tq_node.specs.Node.{NodeView}
 use Rattle.tq_tables.specs.declared.file_row.FileRow.{FileRow}
-use Rattle.tq_tables.specs.Asked.{node_in}
-use Rattle.tq_tables.specs.Files.{row_after_move, row_by_copy, stood_in, IsOfLevels}
+use Rattle.tq_tables.specs.Tables.{node_in}
+use Rattle.tq_tables.specs.Files.{row_after_move, row_by_copy, stood_in, IsOfLevels, OthersLack}
 use Rattle.tq_tables.specs.Parts.{AreOfTree, node_after_all}
-use Rattle.tq_tables.specs.Early.{OthersLack}
 use Rattle.tq_tables.specs.Rows.{has_version, row_at, servers_where}
 use Rattle.tq_tables.proofs.RowLaws.{at-place}
 use Rattle.tq_tables.proofs.Stood.{eq-above, eq-below, head-placed, numbers-if, passing, placed, placed-later, those}

@@ -9,14 +9,13 @@ use Rattle.tq_store.specs.Copies.{copy_of}
 use Rattle.tq_store.specs.Names.{same_name}
 use Rattle.tq_store.specs.declared.copies.FileCopy.{FileCopy}
 use Rattle.tq_store.proofs.Installed.{lt-false, lt-true}
-use Rattle.tq_store.proofs.SameName.{same_name-sym}
+use Rattle.tq_store.proofs.Padded.{same_name-sym}
 use Rattle.tq_desk.specs.DeskJournal.{Commit, count}
 use Rattle.tq_node.specs.Node.{NodeView}
 use Rattle.tq_tables.specs.declared.file_row.FileRow.{FileRow}
 use Rattle.tq_tables.specs.Files.{all_stood, row_after_move, row_by_copy, stood_at}
-use Rattle.tq_tables.specs.NamesApart.{is_in}
+use Rattle.tq_tables.specs.Rows.{is_in, file_row, file_rows, files_in, has_version, row_at}
 use Rattle.tq_tables.specs.Parts.{AreOfTree}
-use Rattle.tq_tables.specs.Rows.{file_row, file_rows, files_in, has_version, row_at}
 
 -- ---- numbers
 

@@ -8,7 +8,7 @@ use Rattle.std.proofs.lemmas.List.{map-id}
 use Rattle.std.proofs.lemmas.List.Elements.{All-map}
 use Rattle.indexmap.specs.IndexMap.{insert_entry}
 use Rattle.tq_store.specs.Names.{same_name}
-use Rattle.tq_store.proofs.SameName.{same_name-is, same_name-refl}
+use Rattle.tq_store.proofs.Padded.{same_name-is, same_name-refl}
 use Rattle.tq_evidence.specs.declared.op.Op.{Op}
 use Rattle.tq_desk.specs.declared.ask.DeskAsk.{DeskAsk}
 use Rattle.tq_desk.specs.declared.ask.DeskAsk.TheVariants as asks
@@ -18,12 +18,10 @@ use Rattle.tq_desk.specs.DeskStep.{with_files}
 use Rattle.tq_desk.specs.DeskJournal.{Commit, count, with_commit}
 use Rattle.tq_node.specs.Node.{NodeView}
 use Rattle.tq_tables.specs.declared.file_row.FileRow.{FileRow}
-use Rattle.tq_tables.specs.Counted.{count_in, commit_counts, names_of, version_of, with_each, with_one}
+use Rattle.tq_tables.specs.Rows.{count_in, commit_counts, names_of, version_of, with_each, with_one, is_in, Apart, file_rows, files_in, row_at}
 use Rattle.tq_tables.specs.Files.{AreOfLevels, IsOfLevels, committed_ops, version_in, with_row, with_rows}
-use Rattle.tq_tables.specs.NamesApart.{is_in, Apart}
-use Rattle.tq_tables.specs.Rows.{file_rows, files_in, row_at}
 use Rattle.tq_tables.proofs.Counting.{is_in-names_of, count-most, count_in-counted, count_in-other, counted-more}
-use Rattle.tq_tables.proofs.Names.{Apart-keys, differ, or-true}
+use Rattle.tq_tables.proofs.Kept.{Apart-keys, differ, or-true}
 use Rattle.tq_tables.proofs.RowLaws.{rows-counted}
 
 -- where no name is, there are none

@@ -1,11 +1,12 @@
--- The rows of files as they are kept, and how one of them changes.
-use Rattle.std.specs.Prelude.{◌≡◌, ◌+◌, ◌≤◌, ℕ, Bool, true, false, cond, List, [], ◌∷◌, map, fold, slice_get, Option, Some, refl}
+-- The rows of files as they are kept, and how one of them changes. The servers that may have a copy of a file before a
+-- commit of it is followed, so that it has no row.
+use Rattle.std.specs.Prelude.{◌≡◌, ◌+◌, ◌≤◌, ℕ, Bool, true, false, cond, List, [], ◌∷◌, map, fold, slice_get, Option, Some, refl, length}
 use Rattle.std.specs.Coded.{Coded, code_by, coded×, coded_list, coded_ℕ}
 use Rattle.std.specs.List.{All, AllByRecursion}
 use Rattle.std.specs.Map.{lookup}
 use Rattle.indexmap.specs.IndexMap.{set_value_at}
 use Rattle.tq_shape.specs.Tree.{Server}
-use Rattle.tq_shape.specs.ServerSet.{Servers, with_number, without_number}
+use Rattle.tq_shape.specs.ServerSet.{Servers, with_number, without_number, has_number}
 use Rattle.tq_store.specs.Copies.{copy_of}
 use Rattle.tq_store.specs.Names.{same_name}
 use Rattle.tq_store.specs.declared.write.Write.{Write}
@@ -16,13 +17,12 @@ use Rattle.tq_desk.specs.declared.ask.DeskAsk.TheVariants as asks
 use Rattle.tq_desk.specs.declared.ask.DeskReply.{DeskReply}
 use Rattle.tq_desk.specs.declared.ask.DeskReply.TheVariants as replies
 use Rattle.tq_node.specs.Node.{NodeView}
-use Rattle.tq_node.specs.Untouched.{offered_files, raised_files}
+use Rattle.tq_node.specs.Telling.{offered_files, raised_files}
 use Rattle.tq_node.specs.declared.telling.Raised.{Raised}
-use Rattle.tq_tables.specs.Asked.{node_in}
-use Rattle.tq_tables.specs.NamesApart.{Apart}
-use Rattle.tq_tables.specs.Counted.{count_in, version_of}
-use Rattle.tq_tables.specs.Rows.{has_version, row_at}
+use Rattle.tq_tables.specs.Tables.{node_in}
+use Rattle.tq_tables.specs.Rows.{Apart, is_in, count_in, version_of, has_version, row_at, servers_where}
 use Rattle.tq_tables.specs.declared.file_row.FileRow.{FileRow}
+use Rattle.tq_tables.specs.declared.holders.Holders.{Holders}
 
 -- what callers see of a table of files: the levels of the tree of servers, the rows, and for how many files more there
 -- is room with no memory asked for
@@ -161,3 +161,29 @@ committed_ops ask reply = []
 -- codes, by which a proof tells values apart
 abbrev pub files_view_code : Coded FileRow → Coded FilesView
 files_view_code row_code = code_by (ℕ × (List FileRow × ℕ)) (coded× coded_ℕ (coded× (coded_list row_code) coded_ℕ)) (λ f. (f.levels, (f.rows, f.room))) (λ p. record { levels = p.0; rows = p.1.0; room = p.1.1 }) (λ _. refl)
+
+-- ---- early
+
+-- the file has a row
+abbrev pub has_row : List FileRow → List ℕ → Bool
+has_row rows file = is_in file (names_in rows)
+
+-- each of the files has one
+abbrev pub HaveRows : List FileRow → List (List ℕ) → Type 0
+HaveRows rows files = AllByRecursion (λ file. has_row rows file ≡ true) files
+
+-- no server but those of these numbers has a copy of the file
+abbrev pub OthersLack : List ℕ → List ℕ → List NodeView → Type 0
+OthersLack file numbers nodes = All (λ node. has_number numbers node.server ≡ false → has_version file 1 node ≡ false) nodes
+
+-- all servers, and some, of which is each that has a copy of a file with no row
+pub record AreHolders (levels : ℕ) (nodes : List NodeView) (rows : List FileRow) (holders : Holders) : Type 0 where
+  pub levels_are : holders.early.levels ≡ levels
+  pub within : All (λ number. number ≤ length nodes) holders.early.numbers
+  pub all : holders.all ≡ servers_where levels (λ node. true) nodes
+  pub others : (file : List ℕ) → has_row rows file ≡ false → OthersLack file holders.early.numbers nodes
+
+-- those after copies of files rose at a server; whether each of the files has a row
+abbrev pub held_by : Bool → ℕ → Holders → Holders
+held_by true server holders = holders
+held_by false server holders = record { early = put_in server holders.early; all = holders.all }

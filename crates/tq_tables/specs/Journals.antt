@@ -3,10 +3,10 @@ use Rattle.std.specs.Prelude.{◌≡◌, ◌≤◌, ◌+◌, ◌-◌, ◌^◌, �
 use Rattle.std.specs.Global.{Vec}
 use Rattle.std.specs.List.{All}
 use Rattle.tq_shape.specs.Limits.{LimitsView}
-use Rattle.tq_shape.specs.declared.entry.Entry.{Entry}
+use Rattle.tq_shape.specs.declared.part.Entry.{Entry}
 use Rattle.tq_live.specs.declared.view.ViewAsk.{ViewAsk}
 use Rattle.tq_live.specs.declared.view.ViewReply.{ViewReply}
-pub use Rattle.tq_live.specs.ViewTree.{IsOfTree}
+pub use Rattle.tq_live.specs.ViewLaws.{IsOfTree}
 use Rattle.tq_node.specs.NodeJournal.{NodeEntry}
 use Rattle.tq_desk.specs.DeskJournal.{DeskEntry}
 

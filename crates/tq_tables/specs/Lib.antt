@@ -2,16 +2,8 @@ pub use Rattle.tq_shape.specs.Journal
 pub mod Journals
 pub mod Parts
 pub mod Rows
-pub mod Walk
 pub mod Tables
 pub mod Tabled
-pub mod Counted
-pub mod DeskStates
-pub mod NamesApart
 pub mod Files
-pub mod Early
-pub mod Told
-pub mod NextOfServer
-pub mod Asked
-pub mod NextEntry
 pub mod Reserved
+pub mod Same

@@ -1,27 +1,31 @@
--- The parts of a system as their journals leave them, and when journals are legal.
-use Rattle.std.specs.Prelude.{◌≡◌, ℕ, ◌+◌, Bool, List, [], ◌∷◌, length, reverse, refl}
+-- The parts of a system as their journals leave them, and when journals are legal. An ask of one server among all
+-- parts.
+use Rattle.std.specs.Prelude.{◌≡◌, ℕ, ◌+◌, Bool, List, [], ◌∷◌, length, reverse, refl, ◌-◌, ◌<◌, slice_index_or, slice_set}
 use Rattle.std.specs.Coded.{Coded, code_by, coded×, coded_list, coded_ℕ, coded_bool}
 use Rattle.tq_shape.specs.Journal.{state_from}
 use Rattle.tq_shape.specs.Limits.{LimitsView}
-use Rattle.tq_node.specs.Records.{NodeState, node_after}
+use Rattle.tq_node.specs.Records.{NodeState, node_after, node_reply}
 use Rattle.tq_node.specs.Node as node
 use Rattle.tq_intents.specs.declared.record.OpenVote.{OpenVote}
 use Rattle.tq_intents.specs.declared.record.Record.{Record}
 use Rattle.tq_asks.specs.declared.ask.Verdict.{Verdict}
-use Rattle.tq_node.specs.Node.{NodeView, node_code}
+use Rattle.tq_node.specs.Node.{NodeView, node_code, server_after}
 use Rattle.tq_node.specs.NodeJournal.{IsLegalNode, NodeEntry}
 use Rattle.tq_desk.specs.DeskStep.{DeskView, desk_after}
 use Rattle.tq_desk.specs.DeskStep as desk
-use Rattle.tq_desk.specs.Views.{desk_code}
-use Rattle.tq_desk.specs.DeskChanges.{desk_changed}
-use Rattle.tq_desk.specs.DeskJournal.{DeskBounds, IsLegalDesk, DeskEntry}
-use Rattle.tq_desk.specs.declared.change.DeskChange.{DeskChange}
+use Rattle.tq_desk.specs.DeskJournal.{desk_code, DeskBounds, IsLegalDesk, DeskEntry}
+use Rattle.tq_desk.specs.DeskPlans.{desk_changed}
+use Rattle.tq_desk.specs.declared.desk.DeskChange.{DeskChange}
 use Rattle.tq_live.specs.Live.{Live}
 use Rattle.tq_live.specs.Costs.{costs_code}
 use Rattle.tq_live.specs.declared.costs.Costs.{Costs}
 use Rattle.tq_live.specs.View.{view_after, view_state, IsLegalView}
 use Rattle.tq_live.specs.declared.view.ViewAsk.{ViewAsk}
 use Rattle.tq_tables.specs.Journals.{JournalsView, ViewEntry}
+use Rattle.tq_asks.specs.declared.ask.NodeAsk.{NodeAsk}
+use Rattle.tq_node.specs.Telling.{AreReached, KeepsOthers, raised_files}
+use Rattle.tq_node.specs.declared.telling.Raised.{Raised}
+use Rattle.tq_node.specs.declared.telling.Telling.{Telling}
 
 -- the raw records of a server after the entries of its journal
 abbrev pub node_at : ℕ → List NodeEntry → NodeState
@@ -95,3 +99,33 @@ live_code = code_by (ℕ × (List Costs × List Bool)) (coded× coded_ℕ (coded
 abbrev pub parts_code : Coded Record → Coded OpenVote → Coded Verdict → Coded PartsView
 parts_code record_code vote_code verdict_code =
     code_by (List NodeView × (DeskView × Live)) (coded× (coded_list (node_code record_code vote_code)) (coded× (desk_code verdict_code) live_code)) (λ p. (p.nodes, (p.desk, p.view))) (λ q. record { nodes = q.0; desk = q.1.0; view = q.1.1 }) (λ _. refl)
+
+-- ---- told
+
+-- it is the server of that number, of servers upwards from server 1
+abbrev pub IsNodeAt : List NodeView → ℕ → NodeView → Type 0
+IsNodeAt nodes server node = node ≡ slice_index_or nodes (server - 1) node
+
+-- the number is above that of the server's last entry
+abbrev pub IsAboveLast : List NodeView → ℕ → ℕ → Type 0
+IsAboveLast nodes server number = (node : NodeView) → IsNodeAt nodes server node → node.last < number
+
+-- what is told is the server's reply, twice
+abbrev pub TellsReply : List NodeView → ℕ → NodeAsk → Telling → Type 0
+TellsReply nodes server ask telling =
+    (node : NodeView) → IsNodeAt nodes server node → (telling.entered ≡ node_reply node.server node.state ask) × (telling.told ≡ node_reply node.server node.state ask)
+
+-- the server has answered the ask, of that number; the other parts are as they were
+abbrev pub HasAnswered : PartsView → PartsView → ℕ → ℕ → NodeAsk → Type 0
+HasAnswered old new server number ask =
+    (node : NodeView) → IsNodeAt old.nodes server node → new ≡ record old { nodes = slice_set old.nodes (server - 1) (server_after node number ask) }
+
+-- the ask leaves the server's copies of all files but those that are told as they were
+abbrev pub KeepsUntold : List NodeView → ℕ → ℕ → NodeAsk → Raised → Type 0
+KeepsUntold nodes server number ask raised =
+    (node : NodeView) → IsNodeAt nodes server node → KeepsOthers (raised_files ask raised) node.state.records.copies (server_after node number ask).state.records.copies
+
+-- and its copies of those that are told of the versions that are told, or of later ones
+abbrev pub ReachesTold : List NodeView → ℕ → ℕ → NodeAsk → Raised → Type 0
+ReachesTold nodes server number ask raised =
+    (node : NodeView) → IsNodeAt nodes server node → AreReached ask raised (server_after node number ask).state.records.copies

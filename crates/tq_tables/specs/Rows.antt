@@ -1,8 +1,10 @@
--- The rows of the tables, over the raw records of the servers, the costs and marks, and the log of the desk.
-use Rattle.std.specs.Prelude.{ℕ, ◌-◌, ◌^◌, Bool, not, cond, nat_le, List, [], ◌∷◌, ◌++◌, map, filter, Option, Some, None, slice_index_or, sum_by}
+-- The rows of the tables, over the raw records of the servers, the costs and marks, and the log of the desk. The state
+-- of a vote by what the desk keeps. A walk of the open votes. How many commits write each file, as it is counted one
+-- commit after another. Lists of names in which none stands twice.
+use Rattle.std.specs.Prelude.{ℕ, ◌-◌, ◌^◌, Bool, not, cond, nat_le, List, [], ◌∷◌, ◌++◌, map, filter, Option, Some, None, slice_index_or, sum_by, ◌==◌, ◌+◌, fold, ◌≡◌, false}
 use Rattle.std.specs.FinMap as fin
-use Rattle.std.specs.List.{flat_map}
-use Rattle.std.specs.Option.{option_map}
+use Rattle.std.specs.List.{flat_map, list_any}
+use Rattle.std.specs.Option.{option_map, unwrap_or}
 use Rattle.tq_shape.specs.Tree.{Server}
 use Rattle.tq_shape.specs.ServerSet.{Servers}
 use Rattle.tq_store.specs.Copies.{copy_of}
@@ -11,10 +13,10 @@ use Rattle.tq_locks.specs.Locks.{LockKey}
 use Rattle.tq_locks.specs.declared.mode.Lock.{Lock}
 use Rattle.tq_intents.specs.declared.record.OpenVote.{OpenVote}
 use Rattle.tq_node.specs.Node.{NodeView}
-use Rattle.tq_asks.specs.Citing.{cites_vote}
+use Rattle.tq_asks.specs.Verdicts.{cites_vote}
 use Rattle.tq_asks.specs.declared.ask.Verdict.{Verdict}
 use Rattle.tq_asks.specs.declared.ask.Verdict.TheVariants as verdicts
-use Rattle.tq_desk.specs.DeskStep.{with_files}
+use Rattle.tq_desk.specs.DeskStep.{with_files, DeskView, is_begun}
 use Rattle.tq_desk.specs.DeskJournal.{Commit, DeskEntry, commits, count, final}
 use Rattle.tq_desk.specs.DecisionLog.{is_txn, is_written}
 use Rattle.tq_live.specs.Live.{Live, best, cost_of}
@@ -23,12 +25,19 @@ use Rattle.tq_live.specs.declared.purpose.Purpose.{Purpose}
 use Rattle.tq_live.specs.declared.purpose.Purpose.TheVariants as purposes
 use Rattle.tq_live.specs.declared.least.Least.{Least}
 use Rattle.tq_tables.specs.declared.file_row.FileRow.{FileRow}
-use Rattle.tq_tables.specs.declared.lock_row.LockRow.{LockRow}
-use Rattle.tq_tables.specs.declared.quorum_row.QuorumRow.{QuorumRow}
-use Rattle.tq_tables.specs.declared.intent_row.FileVersion.{FileVersion}
-use Rattle.tq_tables.specs.declared.intent_row.IntentRow.{IntentRow}
-use Rattle.tq_tables.specs.declared.intent_row.IntentState.{IntentState}
-use Rattle.tq_tables.specs.declared.intent_row.IntentState.TheVariants.{Unknown, Undecided, Abort, Install, Discard}
+use Rattle.tq_tables.specs.declared.lock_rows.LockRow.{LockRow}
+use Rattle.tq_tables.specs.declared.quorum_rows.QuorumRow.{QuorumRow}
+use Rattle.tq_tables.specs.declared.intent_rows.FileVersion.{FileVersion}
+use Rattle.tq_tables.specs.declared.intent_rows.IntentRow.{IntentRow}
+use Rattle.tq_tables.specs.declared.intent_rows.IntentState.{IntentState}
+use Rattle.tq_tables.specs.declared.intent_rows.IntentState.TheVariants.{Unknown, Undecided, Abort, Install, Discard}
+use Rattle.tq_tables.specs.declared.intent_rows.OpenIntent.{OpenIntent}
+use Rattle.tq_tables.specs.declared.intent_rows.VotesAt.{VotesAt}
+use Rattle.std.specs.Cmp.Lexicographic.{pointwise}
+use Rattle.std.specs.Map.{lookup}
+use Rattle.indexmap.specs.IndexMap.{insert_entry}
+use Rattle.tq_evidence.specs.declared.op.Op.{Op}
+use Rattle.tq_store.specs.Names.{same_name}
 
 -- a server as the tree has it
 abbrev pub server_of : NodeView → Server
@@ -156,3 +165,67 @@ intents_of state server votes = map (intent_row state server) votes
 -- the open votes of each server upwards, ascending by transaction
 abbrev pub intent_rows : (ℕ → ℕ → ℕ → IntentState) → List NodeView → List IntentRow
 intent_rows state nodes = flat_map (λ node. intents_of state (server_of node) (fin.entries node.state.records.votes)) nodes
+
+-- ---- desk states
+
+abbrev pub intent_state_at : DeskView → ℕ → ℕ → ℕ → IntentState
+intent_state_at desk server txn number = cond (is_begun desk txn) (state_by (fin.get desk.finals txn) server number) Unknown
+
+-- the open votes of the servers, each in the state that the desk says
+abbrev pub intent_rows_at : DeskView → List NodeView → List IntentRow
+intent_rows_at desk nodes = intent_rows (intent_state_at desk) nodes
+
+-- ---- walk
+
+-- the row of an open vote whose writes are lent
+abbrev pub lent_row : OpenIntent → IntentRow
+lent_row intent =
+    record {
+      server = intent.server;
+      txn = intent.txn;
+      number = intent.number;
+      writes = map file_version intent.writes.now;
+      state = intent.state;
+    }
+
+-- the rows of the votes of a server that are left to walk, none where there is no server
+abbrev pub left_at : (ℕ → ℕ → ℕ → IntentState) → Option VotesAt → List IntentRow
+left_at state None = []
+left_at state (Some here) = intents_of state here.server here.votes
+
+-- ---- counted
+
+-- the files that ops write, ascending by name
+abbrev pub names_of : List Op → List (List ℕ)
+names_of ops = fin.keys (with_files fin.empty ops)
+
+-- the files that the commits write, each with the number of those that do
+abbrev pub commit_counts : List Commit → List (List ℕ × ℕ)
+commit_counts commits = map (λ file. (file, count file commits)) (files_in commits)
+
+-- the number that a file has among these, 0 where it is not among them
+abbrev pub count_in : List (List ℕ × ℕ) → List ℕ → ℕ
+count_in counts file = unwrap_or (lookup (pointwise (◌==◌) file) counts) 0
+
+-- one more for the file
+abbrev pub with_one : List (List ℕ × ℕ) → List ℕ → List (List ℕ × ℕ)
+with_one counts file = insert_entry (pointwise (◌==◌)) counts file (count_in counts file + 1)
+
+-- one more for each of the files
+abbrev pub with_each : List (List ℕ × ℕ) → List (List ℕ) → List (List ℕ × ℕ)
+with_each counts files = fold with_one counts files
+
+-- what a row says of its file
+abbrev pub version_of : FileRow → List ℕ × ℕ
+version_of row = (row.file, row.version)
+
+-- ---- names apart
+
+-- the name is in the list
+abbrev pub is_in : List ℕ → List (List ℕ) → Bool
+is_in name names = list_any (same_name name) names
+
+-- none stands twice
+abbrev pub Apart : List (List ℕ) → Type 0
+Apart [] = Unit {0}
+Apart (name ∷ names) = (is_in name names ≡ false) × Apart names

@@ -2,9 +2,8 @@
 
 ghost use Rattle.std.specs.Prelude.{◌≡◌, ◌+◌, ◌<◌, ◌≤◌, ◌^◌, ℕ, List, true, length, map, IfOk};
 ghost use Rattle.std.specs.List.{All};
-ghost use Rattle.tq_tables.specs.Counted.{names_of};
-ghost use Rattle.tq_tables.specs.Early.{AreHolders, OthersLack};
-ghost use Rattle.tq_tables.specs.Files.{AreExact, version_in, written_row};
+ghost use Rattle.tq_tables.specs.Rows.{names_of};
+ghost use Rattle.tq_tables.specs.Files.{AreHolders, OthersLack, AreExact, version_in, written_row};
 ghost use Rattle.tq_tables.specs.Parts.{AreOfTree};
 ghost use Rattle.tq_tables.specs.Rows as spec;
 

@@ -2,11 +2,9 @@
 
 ghost use Rattle.std.specs.Prelude.{◌≡◌, map, IfOk, Some};
 ghost use Rattle.std.specs.Iterator.{YieldsFirstBy};
-ghost use Rattle.tq_tables.specs.DeskStates.{intent_rows_at, intent_state_at};
+ghost use Rattle.tq_tables.specs.Rows.{intent_rows_at, intent_state_at, left_at, lent_row};
 ghost use Rattle.tq_tables.specs.Rows as spec;
-ghost use Rattle.tq_tables.specs.Walk.{left_at, lent_row};
 
-use crate::{FileVersion, IntentRow, IntentState};
 use std::alloc::Global;
 use std::collections::btree_map::Iter;
 use std::marker::Model;
@@ -15,7 +13,7 @@ use tq_desk::Desk;
 use tq_intents::OpenVote;
 use tq_node::Node;
 use tq_shape::{Memory, Seq, ServerId};
-use tq_store::Write;
+use tq_store::{FileName, Write};
 
 /// A vote that is open at a server, whose writes are lent.
 #[derive(Clone, Copy)]
@@ -64,10 +62,8 @@ pub struct OpenIntents<'a> {
 
 impl<'a> Model for OpenIntents<'a> {
     ghost use Rattle.std.specs.Prelude.{List, ◌++◌};
-    ghost use Rattle.tq_tables.specs.declared.intent_row.IntentRow.{IntentRow};
-    ghost use Rattle.tq_tables.specs.DeskStates.{intent_state_at};
-    ghost use Rattle.tq_tables.specs.Rows.{intent_rows};
-    ghost use Rattle.tq_tables.specs.Walk.{left_at};
+    ghost use Rattle.tq_tables.specs.declared.intent_rows.IntentRow.{IntentRow};
+    ghost use Rattle.tq_tables.specs.Rows.{intent_state_at, intent_rows, left_at};
 
     ghost Value = { List IntentRow };
 
@@ -90,7 +86,7 @@ impl<'a> OpenIntents<'a> {
 
 impl<'a> Iterator for OpenIntents<'a> {
     ghost use Rattle.std.specs.Iterator.{YieldsFirstBy, item_count};
-    ghost use Rattle.tq_tables.specs.Walk.{lent_row};
+    ghost use Rattle.tq_tables.specs.Rows.{lent_row};
 
     type Item = OpenIntent<'a>;
 
@@ -180,5 +176,51 @@ fn state_by(verdict: &Verdict, server: u64, number: u64) -> IntentState
         Verdict::Abort => IntentState::Abort,
         Verdict::Commit { .. } if verdict.cites(server, number) => IntentState::Install,
         Verdict::Commit { .. } => IntentState::Discard,
+    }
+}
+
+/// A file, and the version that a write makes of it.
+#[derive(Clone, Copy, Debug, PartialEq)]
+pub struct FileVersion {
+    pub file: FileName,
+    pub version: u64,
+}
+
+/// What the desk's log says of an open vote.
+#[derive(Clone, Copy, Debug, PartialEq, Eq)]
+pub enum IntentState {
+    /// Its transaction was never begun.
+    Unknown,
+    /// Its transaction has not ended.
+    Undecided,
+    /// Its transaction aborted.
+    Abort,
+    /// Its transaction committed and cites this vote.
+    Install,
+    /// Its transaction committed and cites other votes.
+    Discard,
+}
+
+/// A vote that is open at a server.
+pub struct IntentRow {
+    pub server: ServerId,
+    pub txn: u64,
+    /// The number of the server's entry that gave the vote.
+    pub number: u64,
+    /// What it would install, ascending by file.
+    pub writes: Seq<FileVersion>,
+    pub state: IntentState,
+}
+
+// Written out, so that a crate above lets go of one by a call.
+impl Drop for IntentRow {
+    fn drop(self) {
+        let Self {
+            server: _,
+            txn: _,
+            number: _,
+            writes: _,
+            state: _,
+        } = self;
     }
 }

@@ -1,4 +1,4 @@
-//! The journals of all parts.
+//! The journals of all parts, and an entry of any part, lent.
 
 ghost use Rattle.std.specs.Prelude.{◌≡◌, ◌≤◌, ◌+◌, ◌^◌, length, All};
 ghost use Rattle.tq_tables.specs.Journals.{AreJournals, IsOfTree, entries_in};
@@ -152,4 +152,12 @@ impl Journals {
     {
         self.view.as_slice()
     }
+}
+
+/// An entry of the journal of a server, of the desk or of the view, lent.
+#[derive(Clone, Copy)]
+pub enum PartEntry<'a> {
+    Server(&'a NodeEntry),
+    Desk(&'a DeskEntry),
+    View(&'a ViewEntry),
 }

@@ -4,10 +4,11 @@ ghost use Rattle.std.specs.Prelude.{◌≡◌, ◌++◌, map, IfOk, OnOk};
 ghost use Rattle.std.specs.FinMap as fin;
 ghost use Rattle.tq_tables.specs.Rows as spec;
 
-use crate::LockRow;
 use std::alloc::Global;
+use tq_locks::Mode;
 use tq_node::Node;
-use tq_shape::Memory;
+use tq_shape::{Memory, ServerId};
+use tq_store::FileName;
 
 /// The locks that are held at the servers.
 pub fn lock_rows(alloc: Global, nodes: &[Node]) -> Result<Vec<LockRow>, Memory>
@@ -37,4 +38,17 @@ fn push_locks(alloc: Global, rows: &mut Vec<LockRow>, node: &Node) -> Result<(),
         })?;
     }
     Ok(())
+}
+
+/// A lock that a transaction holds at a server.
+#[derive(Clone, Copy, Debug, PartialEq)]
+pub struct LockRow {
+    pub server: ServerId,
+    pub file: FileName,
+    pub txn: u64,
+    pub mode: Mode,
+    /// The number of the server's entry that granted it first without a break.
+    pub since: u64,
+    /// The version of the server's copy then.
+    pub version: u64,
 }

@@ -1,20 +1,17 @@
-//! All parts of a system.
+//! All parts of a system, and a reply of one, twice.
 
-ghost use Rattle.std.specs.Prelude.{◌≡◌, ◌+◌, ◌-◌, ◌<◌, ◌≤◌, ◌^◌, [], IfOk, OnOk, OnErr, length, replicate};
-ghost use Rattle.std.specs.Prelude.{slice_index_or};
-ghost use Rattle.tq_desk.specs.DeskChanges.{DeskFits};
-ghost use Rattle.tq_tables.specs.Asked.{view_replies};
-ghost use Rattle.tq_tables.specs.Parts.{nodes_at};
-ghost use Rattle.tq_tables.specs.Told.{HasAnswered, IsAboveLast, KeepsUntold, ReachesTold, TellsReply};
+ghost use Rattle.std.specs.Prelude.{◌≡◌, ◌+◌, ◌-◌, ◌<◌, ◌≤◌, ◌^◌, [], IfOk, OnOk, OnErr, length, replicate, slice_index_or};
+ghost use Rattle.tq_desk.specs.DeskPlans.{DeskFits};
+ghost use Rattle.tq_tables.specs.Tables.{view_replies, both};
+ghost use Rattle.tq_tables.specs.Parts.{nodes_at, HasAnswered, IsAboveLast, KeepsUntold, ReachesTold, TellsReply};
 
-use crate::replies::{Replies, twice};
 use std::alloc::Global;
 use std::marker::Model;
 use tq_asks::NodeAsk;
 use tq_desk::{Desk, DeskChange};
 use tq_live::{View, ViewAsk, ViewReply};
 use tq_node::{Node, Telling};
-use tq_shape::{Levels, Limits, Memory, ServerId};
+use tq_shape::{Answers, Levels, Limits, Memory, ServerId};
 
 /// All parts of a system: the servers of one tree, upwards from server 1, the desk and the view of that tree.
 pub(crate) struct Parts {
@@ -194,4 +191,23 @@ fn copy_nodes(alloc: Global, nodes: &[Node]) -> Result<Vec<Node>, Memory>
         copies.push(node.copy(alloc)?)?;
     }
     Ok(copies)
+}
+
+/// The reply to an ask, twice: one to enter into the journal, and one to tell.
+#[derive(Drop)]
+pub struct Replies<R> {
+    pub entered: R,
+    pub told: R,
+}
+
+/// The reply, and an equal one.
+#[inline(always)]
+pub(crate) fn twice<P: Answers>(alloc: Global, reply: P::Reply) -> Result<Replies<P::Reply>, Memory>
+    ensures { IfOk result (λ replies. replies ≡ both reply) }
+{
+    let told = P::same_reply(alloc, &reply)?;
+    Ok(Replies {
+        entered: reply,
+        told,
+    })
 }

@@ -4,7 +4,6 @@ ghost use Rattle.std.specs.Prelude.{◌≡◌, IfOk};
 ghost use Rattle.std.specs.Bool.{OnFalse};
 ghost use Rattle.tq_tables.specs.Rows as spec;
 
-use crate::QuorumRow;
 use std::alloc::Global;
 use tq_live::{Least, LiveTree, Purpose};
 use tq_shape::{Memory, ServerId};
@@ -67,4 +66,19 @@ pub(crate) fn least_into(
     ensures tree { row.new.servers.levels ≡ tree.now.levels }
 {
     tree.best_into(purpose, server, row)
+}
+
+/// The first quorums of least cost of a server's subtree among those that are up; none where none is up.
+pub struct QuorumRow {
+    /// By what reading at the servers costs.
+    pub read: Option<Least>,
+    /// By what writing at the servers costs.
+    pub write: Option<Least>,
+}
+
+// Written out, so that a crate above lets go of one by a call.
+impl Drop for QuorumRow {
+    fn drop(self) {
+        let Self { read: _, write: _ } = self;
+    }
 }

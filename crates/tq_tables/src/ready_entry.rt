@@ -1,11 +1,12 @@
-//! What is reserved: an ask of any part with its number.
+//! What is reserved: an ask of any part with its number, and the tables that it leads to.
 
 ghost use Rattle.std.specs.Prelude.{◌≡◌, ◌↔◌, IsTrue, IfOk};
 
-use crate::PartEntry;
+use crate::followed::Followed;
+use crate::{PartEntry, Same};
+use std::alloc::Global;
 use tq_asks::NodeAsk;
 use tq_desk::DeskAsk;
-use tq_equality::{Alike, OfDesk, OfServer, OfView};
 use tq_live::ViewAsk;
 use tq_shape::{Memory, Part};
 
@@ -56,15 +57,15 @@ impl PartAsk {
     {
         match self {
             PartAsk::Server(ask) => match entry {
-                PartEntry::Server(entry) => OfServer::is_same_ask(ask, &entry.ask),
+                PartEntry::Server(entry) => ask.is_same(&entry.ask),
                 _ => false,
             },
             PartAsk::Desk(ask) => match entry {
-                PartEntry::Desk(entry) => OfDesk::is_same_ask(ask, &entry.ask),
+                PartEntry::Desk(entry) => ask.is_same(&entry.ask),
                 _ => false,
             },
             PartAsk::View(ask) => match entry {
-                PartEntry::View(entry) => OfView::is_same_ask(ask, &entry.ask),
+                PartEntry::View(entry) => ask.is_same(&entry.ask),
                 _ => false,
             },
         }
@@ -105,5 +106,34 @@ impl ReadyEntry {
             return false;
         }
         self.ask.is_of(entry)
+    }
+}
+
+/// An entry that is reserved, and what is followed after it.
+#[derive(Drop)]
+pub(crate) struct Ready {
+    pub(crate) entry: ReadyEntry,
+    pub(crate) after: Followed,
+}
+
+impl Ready {
+    ghost use Rattle.tq_tables.specs.Reserved.{AreCopied};
+
+    /// An equal one, with memory of its own.
+    pub(crate) fn copy(&self, alloc: Global) -> Result<Ready, Memory>
+        ensures entry { IfOk result (λ copy. copy.entry ≡ self.now.entry) }
+        ensures after { IfOk result (λ copy. AreCopied self.now.after copy.after) }
+    {
+        let after = self.after.copy(alloc)?;
+        let entry = self.entry.copy()?;
+        Ok(Ready { entry, after })
+    }
+
+    /// What is followed after the entry.
+    pub(crate) fn into_after(self) -> Followed
+        ensures { result ≡ self.after }
+    {
+        let Self { entry: _, after } = self;
+        after
     }
 }

@@ -5,11 +5,9 @@ ghost use Rattle.std.specs.Bool.{OnFalse};
 ghost use Rattle.std.specs.List.{All};
 ghost use Rattle.tq_live.specs.Live.{Live};
 ghost use Rattle.tq_live.specs.View.{view_after};
-ghost use Rattle.tq_tables.specs.Asked.{FollowsDesk, FollowsNode, FollowsView, MayAskDesk, MayAskNode};
-ghost use Rattle.tq_tables.specs.Asked.{desk_replies, node_replies, view_replies};
+ghost use Rattle.tq_tables.specs.Tables.{FollowsDesk, FollowsNode, FollowsView, MayAskDesk, MayAskNode, desk_replies, node_replies, view_replies, TablesView};
 ghost use Rattle.tq_tables.specs.Files as spec;
 ghost use Rattle.tq_tables.specs.Reserved.{IsReserve, ready_entry, reserved_entry};
-ghost use Rattle.tq_tables.specs.Tables.{TablesView};
 
 use crate::file_rows::rows_written;
 use crate::file_table::FileTable;
@@ -17,11 +15,9 @@ use crate::followed::Followed;
 use crate::holders::Holders;
 use crate::intent_rows::{OpenIntents, intent_rows};
 use crate::lock_rows::lock_rows;
-use crate::parts::Parts;
+use crate::parts::{Parts, Replies, twice};
 use crate::quorum_rows::{least_into, quorum_rows};
-use crate::ready::Ready;
-use crate::ready_entry::ReadyEntry;
-use crate::replies::{Replies, twice};
+use crate::ready_entry::{Ready, ReadyEntry};
 use crate::{FileRow, IntentRow, Journals, LockRow, PartEntry, QuorumRow};
 use std::alloc::Global;
 use std::marker::Model;
@@ -57,10 +53,10 @@ impl Model for Tables {
     ghost use Rattle.tq_intents.specs.contracts.record.Record as record_type;
     ghost use Rattle.tq_intents.specs.contracts.record.OpenVote as vote_type;
     ghost use Rattle.tq_asks.specs.contracts.ask.Verdict as verdict_type;
-    ghost use Rattle.tq_tables.specs.contracts.quorum_row.QuorumRow as quorum_type;
+    ghost use Rattle.tq_tables.specs.contracts.quorum_rows.QuorumRow as quorum_type;
     ghost use Rattle.tq_tables.specs.contracts.file_row.FileRow as file_type;
-    ghost use Rattle.tq_tables.specs.contracts.lock_row.LockRow as lock_type;
-    ghost use Rattle.tq_tables.specs.contracts.intent_row.IntentRow as intent_type;
+    ghost use Rattle.tq_tables.specs.contracts.lock_rows.LockRow as lock_type;
+    ghost use Rattle.tq_tables.specs.contracts.intent_rows.IntentRow as intent_type;
     ghost use Rattle.tq_tables.specs.contracts.ready_entry.ReadyEntry as ready_type;
     ghost use Rattle.tq_tables.specs.Reserved.{AreFollowed, IsReserve, reserved_entry, tables_in, with_ready};
     ghost use Rattle.tq_tables.specs.Tables.{TablesView, tables_code};
@@ -78,12 +74,11 @@ impl Model for Tables {
 }
 
 impl Tables {
-    ghost use Rattle.tq_tables.specs.NextEntry.{FollowsEntry, IsNextEntry};
+    ghost use Rattle.tq_tables.specs.Tables.{FollowsEntry, IsNextEntry, tables_of};
     ghost use Rattle.tq_tables.specs.Journals.{no_entries};
     ghost use Rattle.tq_tables.specs.Parts.{AreLegal};
     ghost use Rattle.tq_tables.specs.Reserved.{AreFollowed, IsReadyFor, LeadsTo, ask_of, tables_in, unready};
     ghost use Rattle.tq_tables.specs.Rows.{row_if, least_in};
-    ghost use Rattle.tq_tables.specs.Tables.{tables_of};
 
     /// The tables of a system that was asked nothing.
     pub fn new(alloc: Global, levels: Levels, limits: Limits) -> Result<Tables, Memory>

@@ -3,8 +3,7 @@
 use crate::check::{Wrong, check};
 use std::alloc::Global;
 use tq_live::{Choice, Least, LiveTree, Purpose, Turns, View, ViewAsk, ViewReply};
-use tq_part::{Fault, Journaled, foresee};
-use tq_shape::{Entry, Levels, Memory, ServerId, ServerSet};
+use tq_shape::{Entry, Fault, Journaled, Levels, Memory, ServerId, ServerSet, foresee};
 
 fn bit(number: u64) -> u64 {
     1u64.wrapping_shl((number % 64) as u32)

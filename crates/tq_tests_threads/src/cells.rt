@@ -6,8 +6,7 @@ use std::mem::forget;
 use std::process::Abort;
 use std::sync::Wait;
 use tq_cells::{CallFault, Cell, Pass};
-use tq_part::{Answers, Plan};
-use tq_shape::{Memory, Part};
+use tq_shape::{Answers, Memory, Part, Plan};
 
 /// A part that replies what it is asked. It holds nothing that is dropped, so that its cell is cheap to prove.
 #[derive(Clone, Copy)]

@@ -3,8 +3,7 @@ use super::asked::journals_of;
 use std::alloc::Global;
 use std::mem::forget;
 use tq_desk::Desk;
-use tq_equality::{Alike, OfDesk};
-use tq_tables::{DeskEntry, Journals};
+use tq_tables::{DeskEntry, Journals, Same};
 
 /// What the desk is asked behind the begin of transaction 1, and what it replies: of each rule of evidence the first change
 /// that breaks it alone.
@@ -34,7 +33,7 @@ fn answers(alloc: Global, desk: &mut Desk, entry: &DeskEntry) -> bool {
     }
     match desk.answer(alloc, &entry.ask) {
         Ok(reply) => {
-            let is_same = OfDesk::is_same_reply(&reply, &entry.reply);
+            let is_same = reply.is_same(&entry.reply);
             forget(reply);
             is_same
         }

@@ -7,7 +7,6 @@
 #[cfg(test)]
 mod asked;
 #[cfg(test)]
-mod board;
 #[cfg(test)]
 mod evidence;
 #[cfg(test)]

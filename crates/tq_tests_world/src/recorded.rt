@@ -2,12 +2,11 @@
 use super::asked::journals_of;
 use std::alloc::Global;
 use std::mem::forget;
-use tq_equality::{Alike, OfServer};
 use tq_intents::{Record, SharedLock, SharedWrite};
 use tq_locks::Mode;
 use tq_node::Node;
 use tq_shape::{Levels, ServerId};
-use tq_tables::{Journals, NodeEntry};
+use tq_tables::{Journals, NodeEntry, Same};
 
 /// What server 2 is asked: locks and a vote of transaction 7, which outlives a crash, and other transactions that meet it.
 const FILE: &str =
@@ -20,7 +19,7 @@ fn answers(alloc: Global, node: &mut Node, entry: &NodeEntry) -> bool {
     };
     match node.answer(alloc, number, &entry.ask) {
         Ok(reply) => {
-            let is_same = OfServer::is_same_reply(&reply, &entry.reply);
+            let is_same = reply.is_same(&entry.reply);
             forget(reply);
             is_same
         }

@@ -1,14 +1,18 @@
 //! Rows of files where the copy of a server is of a later version than commits made: each part answers so, but no order
-//! of the entries is founded.
+//! of the entries is founded. Beside them, a line of the board that no session reaches.
+
 ghost use Rattle.tq_tables.specs.Parts.{AreLegal};
 
 use super::asked::journals_of;
 use std::alloc::Global;
 use std::mem::forget;
-use tq_board::lines::push_file;
+use std::test::*;
+use tq_board::lines::{push_file, push_lock};
+use tq_locks::Mode;
 use tq_merge::{Fault, explain};
-use tq_shape::Memory;
-use tq_tables::{FileRow, Journals, Tables};
+use tq_shape::{Levels, Memory, ServerId};
+use tq_store::FileName;
+use tq_tables::{FileRow, Journals, LockRow, Tables};
 
 /// Commits of `b`, and of `a` and `b`; what is read is not written. Server 1 has both files as they were committed last,
 /// server 2 an old `b` and a later `a`, and server 3 none.
@@ -74,4 +78,27 @@ fn has_rows_of_file(alloc: Global) -> bool {
 #[test]
 fn a_file_is_current_where_its_last_write_or_a_later_one_is(rt: HostRuntime) {
     assert!(rt; has_rows_of_file(rt.alloc()));
+}
+
+/// A shared lock since the greatest number.
+fn lock_row() -> Result<LockRow, Fail> {
+    let levels = Levels::new(2).ok_or("levels")?;
+    Ok(LockRow {
+        server: ServerId::new(levels, 3),
+        file: FileName::new(b"a").ok_or("name")?,
+        txn: 2,
+        mode: Mode::Shared,
+        since: 18446744073709551615,
+        version: 0,
+    })
+}
+
+#[test]
+fn a_lock_is_printed_with_the_greatest_number(rt: HostRuntime) -> Result<(), Fail> {
+    let row = lock_row()?;
+    let mut text = String::new(rt.alloc());
+    push_lock(&mut text, &row)?;
+    let wanted = "lock 3 a 2 shared since 18446744073709551615 version 0\n";
+    assert!(rt; text.as_str() == wanted);
+    Ok(())
 }

@@ -1,2 +1,1 @@
 pub mod Print
-pub mod Refusals

@@ -1,6 +1,6 @@
 //! What answers and refusals look like.
 //!
-//! Definitions: `specs/Print`, `Refusals`.
+//! Definitions: `specs/Print`.
 #![tactic(auto)]
 
 mod print;

@@ -208,7 +208,7 @@ pub(crate) fn push_number(text: &mut Vec<u8>, number: u64) -> Result<(), Memory>
     ensures text { OnOk result (Appends text.old text.new (decimal number)) }
     ensures kept { OnErr result (Extends text.old.items text.new.items) }
 {
-    tq_digits::push_number(text, number)?;
+    tq_shape::push_number(text, number)?;
     Ok(())
 }
 

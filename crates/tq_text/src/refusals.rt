@@ -3,7 +3,7 @@
 ghost use Rattle.std.specs.Prelude.{◌≡◌, ◌++◌, false, take, OnOk, OnErr};
 ghost use Rattle.std.specs.Fmt.{decimal};
 ghost use Rattle.tq_text.specs.Print.{Appends, Extends, Prints};
-ghost use Rattle.tq_text.specs.Refusals as spec;
+ghost use Rattle.tq_text.specs.Print as spec;
 
 use crate::print::{push_number, push_numbers, push_servers};
 use std::alloc::AllocError;

@@ -14,8 +14,7 @@ use Rattle.tq_txn.specs.declared.asker.Exchange.TheVariants as exchanges
 use Rattle.tq_txn.specs.declared.fault.LineFault.{LineFault}
 use Rattle.tq_txn.specs.declared.txn.Txn.{Txn}
 use Rattle.tq_txn.specs.declared.txn.Txn.TheVariants as states
-use Rattle.tq_txn.specs.Aborts.{is_abort, abort_answer, end_aborted, abort_end}
-use Rattle.tq_txn.specs.Commits.{prepares_line, commit_end}
+use Rattle.tq_txn.specs.Commits.{is_abort, abort_answer, end_aborted, abort_end, prepares_line, commit_end}
 use Rattle.tq_txn.specs.Dialogue.{Told, Dialogue, Ends, AsksNode, AsksDesk, AsksView, Makes, Begins, Follows, LineEnd, then_line, line_done, go_on, and_then, unless, on_told, node_line}
 use Rattle.tq_txn.specs.Lines.{answers, refusal_in, refused_at, vote_answer, first_prepare, prepare_line, any_line, is_nothing_here, release_line, end_line, ending_line}
 use Rattle.tq_txn.specs.Told.{CitesTold, CitesSince, tells_end}

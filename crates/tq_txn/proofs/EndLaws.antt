@@ -1,26 +1,124 @@
--- What the desk's answer makes of a transaction, and where it was told how the transaction ended.
-use Rattle.std.proofs.Common.{◌≡◌, ◌||◌, ℕ, Bool, true, false, cond, is_some, List, [], ◌++◌, Option, Some, None, Ok, Err, refl, sym, ap, ◌∙◌, append-nil}
-use Rattle.std.specs.List.{list_any}
+-- How an abort ends. A transaction that gathers votes loses none of them. What the desk's answer makes of a
+-- transaction, and where it was told how the transaction ended.
+use Rattle.std.proofs.Common.{◌≡◌, ℕ, List, ◌++◌, Option, Some, Result, Ok, Err, refl, sym, subst, ◌==◌, arith, suc, Bool, true, false, cond, [], ◌∷◌, None, nat_lt, ◌∙◌, ◌||◌, is_some, ap, append-nil}
+use Rattle.tq_shape.specs.Tree.{Server}
+use Rattle.tq_coterie.specs.Coterie.{numbers_of}
+use Rattle.tq_shape.specs.declared.fault.AskFault.{AskFault}
+use Rattle.tq_desk.specs.declared.ask.DeskAsk.TheVariants as asks
+use Rattle.tq_txn_states.specs.declared.told.DeskTold.{DeskTold}
+use Rattle.tq_txn.specs.declared.asker.Exchange.{Exchange}
+use Rattle.tq_txn.specs.declared.fault.LineFault.{LineFault}
+use Rattle.tq_txn.specs.declared.txn.Txn.{Txn}
+use Rattle.tq_txn.specs.declared.txn.Txn.TheVariants as states
+use Rattle.tq_txn.specs.Commits.{txn_after_resolve, ending_of, abort_end, abort_line, resolved_by}
+use Rattle.tq_txn_states.specs.Ended.{EndedView, verdict_in, verdict_by, commit_verdict}
+use Rattle.tq_txn.specs.Dialogue.{LineEnd, Follows, line_done, ended_by, fault_of_ask, desk_exchange, desk_line}
+use Rattle.tq_txn.specs.Lines.{ending_line}
+use Rattle.tq_txn.specs.Told.{number_of, IsEndOf, IsGathered, IsStill, IsAnswered, is_ended, tells_end, EndsWhereTold}
+use Rattle.tq_txn.proofs.LineLaws.{follows_end, follows_on, follows_off, told_desk, refused_desk, further}
+use Rattle.std.specs.List.{All, Contains, list_any}
+use Rattle.std.proofs.lemmas.List.Elements.{All-nil, All-cons, All-weaker, All-contains, All-contains_itself}
+use Rattle.tq_evidence.specs.declared.vote.Vote.{Vote}
+use Rattle.tq_asks.specs.declared.ask.NodeAsk.{NodeAsk}
+use Rattle.tq_asks.specs.declared.ask.NodeAsk.TheVariants.{Work}
+use Rattle.tq_asks.specs.declared.ask.NodeReply.{NodeReply}
+use Rattle.tq_asks.specs.declared.ask.NodeReply.TheVariants.{Yes}
+use Rattle.tq_asks.specs.declared.ask.WorkAsk.TheVariants.{Prepare}
+use Rattle.tq_txn_states.specs.declared.told.NodeTold.{NodeTold}
+use Rattle.tq_txn_states.specs.Open.{put, OpenView}
+use Rattle.tq_txn_states.specs.Voting.{VotingView, IsVotedOn, has_vote, with_vote, txn_after_vote, voted_by, vote_after, evidence_of}
 use Rattle.std.proofs.Math.Bool.{or-false}
 use Rattle.std.proofs.lemmas.Bool.{eq-eqb}
 use Rattle.std.proofs.lemmas.List.Folds.{list_any-append}
-use Rattle.tq_part.specs.declared.fault.AskFault.{AskFault}
-use Rattle.tq_part.specs.declared.fault.AskFault.TheVariants as ask_faults
+use Rattle.tq_shape.specs.declared.fault.AskFault.TheVariants as ask_faults
 use Rattle.tq_asks.specs.declared.ask.Verdict.{Verdict}
 use Rattle.tq_desk.specs.declared.ask.DeskAsk.{DeskAsk}
-use Rattle.tq_txn_states.specs.declared.told.DeskTold.{DeskTold}
-use Rattle.tq_txn_states.specs.Ended.{verdict_in, verdict_by, commit_verdict}
-use Rattle.tq_txn_states.specs.Open.{OpenView}
-use Rattle.tq_txn_states.specs.Voting.{VotingView, evidence_of}
-use Rattle.tq_txn.specs.declared.asker.Exchange.{Exchange}
-use Rattle.tq_txn.specs.declared.txn.Txn.{Txn}
-use Rattle.tq_txn.specs.declared.txn.Txn.TheVariants as states
-use Rattle.tq_txn.specs.Aborts.{resolved_by, txn_after_resolve}
-use Rattle.tq_txn.specs.Dialogue.{desk_exchange}
-use Rattle.tq_txn.specs.States.{number_of, IsStill}
-use Rattle.tq_txn.specs.Told.{IsAnswered, is_ended, tells_end, EndsWhereTold}
-use Rattle.tq_txn.proofs.LineLaws.{further}
-use Rattle.tq_txn.proofs.KeptVotes.{voted_on_same}
+
+module _ (ended : EndedView) (ids : List Server) (numbers : numbers_of ids ≡ ended.servers) (told after : List Exchange) where
+  pub aborted : (answer : Result (Unit {0}) LineFault) → Follows (ending_line ended (numbers_of ids)) told after (ended_by answer tt) → Follows (ending_of ended) told after (ended_by answer (states.Ended ended))
+  aborted (Err fault) first =
+      let P : List ℕ → Type 0 = λ ns. Follows (ending_line ended ns) told after (ended_by (Err fault) tt) in
+      follows_off (ending_line ended ended.servers) (λ none. states.Ended ended) (λ all none. line_done tt (states.Ended ended)) fault tt (states.Ended ended) told after refl (subst P numbers first)
+  aborted (Ok all) first =
+      let P : List ℕ → Type 0 = λ ns. Follows (ending_line ended ns) told after (Some (record { answer = Ok all; after = tt })) in
+      follows_on (ending_line ended ended.servers) (λ none. states.Ended ended) (λ each none. line_done tt (states.Ended ended)) all tt told after after (Some (record { answer = Ok all; after = states.Ended ended })) (subst P numbers first) (follows_end _ after)
+
+-- the desk was asked: it did not take the ask, or told how the transaction ended
+module _ (old : Txn) (number : ℕ) (is : number ≡ number_of old) (told after : List Exchange) where
+  pub abort_off : (fault : AskFault) (line_fault : LineFault) → line_fault ≡ fault_of_ask fault → after ≡ told ++ desk_exchange (asks.Resolve number) (Err fault) → Follows (abort_line old) told after (ended_by (Err line_fault) old)
+  abort_off fault line_fault faults_are grown =
+      let P : LineFault → Type 0 = λ f. Follows (abort_line old) told after (ended_by (Err f) old) in
+      let Q : ℕ → Type 0 = λ n. Follows (desk_line (asks.Resolve n)) told after (ended_by (Err (fault_of_ask fault)) tt) in
+      subst P (sym faults_are)
+      (follows_off (desk_line (asks.Resolve (number_of old))) (λ none. old) (λ answer none. abort_end answer.reply (txn_after_resolve old answer)) (fault_of_ask fault) tt old told after refl (subst Q is (refused_desk (asks.Resolve number) fault told after grown)))
+
+  pub abort_on : (mid : List Exchange) (answer : DeskTold) (end : Option (LineEnd (Unit {0}) Txn)) → mid ≡ told ++ desk_exchange (asks.Resolve number) (Ok answer) → answer.ask ≡ asks.Resolve number
+      → Follows (abort_end answer.reply (txn_after_resolve old answer)) mid after end → Follows (abort_line old) told after end
+  abort_on mid answer end grown asked rest =
+      let Q : ℕ → Type 0 = λ n. Follows (desk_line (asks.Resolve n)) told mid (Some (record { answer = Ok answer; after = tt })) in
+      follows_on (desk_line (asks.Resolve (number_of old))) (λ none. old) (λ a none. abort_end a.reply (txn_after_resolve old a)) answer tt told mid after end (subst Q is (told_desk (asks.Resolve number) answer told mid grown asked)) rest
+
+-- ---- kept votes
+
+Contains-first : {X : Type 0} (x : X) (xs : List X) → Contains (x ∷ xs) x
+Contains-first x xs = (0, omega arith, refl)
+
+Contains-later : {X : Type 0} (y : X) (xs : List X) (x : X) → Contains xs x → Contains (y ∷ xs) x
+Contains-later y xs x h = let lt = h.1 in (suc h.0, omega arith, h.2)
+
+later_all : {X : Type 0} (y : X) (xs few : List X) → All (Contains xs) few → All (Contains (y ∷ xs)) few
+later_all y xs few h = All-weaker (Contains xs) (Contains (y ∷ xs)) (Contains-later y xs) few h
+
+put_keeps : (later : Vote → Bool) (vote : Vote) (votes : List Vote) → All (Contains (put later vote votes)) votes
+put_keeps later vote [] = All-nil (Contains (vote ∷ []))
+put_keeps later vote (first ∷ rest) =
+    elim (later first) as (λ b. All (Contains (cond b (vote ∷ first ∷ rest) (first ∷ put later vote rest))) (first ∷ rest)) [
+      | true ↦ later_all vote (first ∷ rest) (first ∷ rest) (All-contains_itself (first ∷ rest))
+      | false ↦ All-cons (Contains (first ∷ put later vote rest)) first rest (Contains-first first (put later vote rest)) (later_all first (put later vote rest) rest (put_keeps later vote rest))
+    ]
+
+-- a vote of a server that has none yet
+new_vote_keeps : (vote : Vote) (votes : List Vote) → has_vote votes vote.server ≡ false → All (Contains (with_vote vote votes)) votes
+new_vote_keeps vote votes none = rw none (put_keeps (λ (other : Vote). nat_lt vote.server other.server) vote votes)
+
+pub voted_on_same : (old new : VotingView) → new ≡ old → IsVotedOn old new
+voted_on_same old new is = subst (IsVotedOn old) (sym is) (record { txn = refl; votes = All-contains_itself old.votes })
+
+pub voted_on_on : (old mid new : VotingView) → IsVotedOn old mid → IsVotedOn mid new → IsVotedOn old new
+voted_on_on old mid new first second = record {
+  txn = second.txn ∙ first.txn;
+  votes = All-weaker (Contains mid.votes) (Contains new.votes) (λ vote. All-contains (Contains new.votes) mid.votes vote second.votes) old.votes first.votes;
+}
+
+voted_on_by : (old : VotingView) (server number : ℕ) (ask : NodeAsk) (reply : NodeReply) → has_vote old.votes server ≡ false → IsVotedOn old (txn_after_vote old (voted_by old.txn.txn server number ask reply))
+voted_on_by old server number (Work (Prepare voter asked)) (Yes held writes) none =
+    let vote : Vote = record { server = server; number = number; held = held; writes = writes } in
+    elim (voter == old.txn.txn) as (λ b. IsVotedOn old (txn_after_vote old (cond b (Some vote) None))) [
+      | true ↦ record { txn = refl; votes = new_vote_keeps vote old.votes none }
+      | false ↦ voted_on_same old old refl
+    ]
+voted_on_by old server number ask reply none = voted_on_same old old refl
+
+-- the vote of a server that had none yet
+pub voted_on_after : (old new : VotingView) (told : NodeTold) → new ≡ vote_after old told → has_vote old.votes told.server ≡ false → IsVotedOn old new
+voted_on_after old new told is none = subst (IsVotedOn old) (sym is) (voted_on_by old told.server told.number told.ask told.reply none)
+
+-- ---- the transaction in any state
+
+pub gathered_on : (old mid : VotingView) (txn : Txn) → IsVotedOn old mid → IsGathered mid txn → IsGathered old txn
+gathered_on old mid (states.Open new) first second = second
+gathered_on old mid (states.Voting new) first second = voted_on_on old mid new first second
+gathered_on old mid (states.Ended new) first second = let P : OpenView → Type 0 = λ txn. IsEndOf txn new in subst P first.txn second
+
+still_itself : (txn : Txn) → IsStill txn txn
+still_itself (states.Open old) = refl
+still_itself (states.Voting old) = voted_on_same old old refl
+still_itself (states.Ended old) = refl
+
+pub still_same : (old new : Txn) → new ≡ old → IsStill old new
+still_same old new is = subst (IsStill old) (sym is) (still_itself old)
+
+-- ---- end laws
 
 -- ---- the verdict in an answer
 

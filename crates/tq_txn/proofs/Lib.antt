@@ -1,12 +1,7 @@
 pub mod LineLaws
-pub mod GrantLaws
-pub mod StopLaws
-pub mod KeptVotes
-pub mod ToldLaws
-pub mod KnownLaws
+pub mod LockingLaws
 pub mod EndLaws
+pub mod KnownLaws
 pub mod Deskless
 pub mod CommitLaws
-pub mod AbortLaws
-pub mod LockingLaws
-pub mod EndingLaws
+pub mod Following

@@ -1,4 +1,5 @@
--- What was told along a line, one ask or one part of it after another.
+-- What was told along a line, one ask or one part of it after another. What was told along a line in which a server
+-- stops.
 use Rattle.std.proofs.Common.{◌≡◌, ◌<◌, ℕ, Bool, false, List, [], ◌∷◌, ◌++◌, Option, Some, None, Result, Ok, Err, refl, sym, ap, ◌∙◌, subst, inl, inr, append_assoc, append-nil, ◌+◌, suc, length, drop, get_or, arith}
 use Rattle.std.proofs.Math.Seq.{drop-cons}
 use Rattle.tq_asks.specs.declared.ask.NodeAsk.{NodeAsk}
@@ -9,8 +10,8 @@ use Rattle.tq_live.specs.declared.purpose.Purpose.{Purpose}
 use Rattle.tq_live.specs.declared.view.ViewAsk.{ViewAsk}
 use Rattle.tq_live.specs.declared.view.ViewReply.{ViewReply}
 use Rattle.std.specs.Prelude.{IfOk}
-use Rattle.tq_part.specs.declared.fault.AskFault.{AskFault}
-use Rattle.tq_part.specs.declared.fault.AskFault.TheVariants as ask_faults
+use Rattle.tq_shape.specs.declared.fault.AskFault.{AskFault}
+use Rattle.tq_shape.specs.declared.fault.AskFault.TheVariants as ask_faults
 use Rattle.tq_txn.specs.declared.asker.Exchange.{Exchange}
 use Rattle.tq_txn.specs.declared.asker.Exchange.TheVariants as exchanges
 use Rattle.tq_txn.specs.declared.asker.ViewTold.{ViewTold}
@@ -24,15 +25,17 @@ use Rattle.tq_locks.specs.declared.mode.Mode.{Mode}
 use Rattle.tq_shape.specs.Tree.{Server}
 use Rattle.tq_coterie.specs.Coterie.{numbers_of}
 use Rattle.tq_txn_states.specs.Ended.{EndedView, decide_ask}
-use Rattle.tq_txn.specs.Lines.{LocksView, purpose_of, choose_line, next_lock, locks_line, quorum_line, read_end, quorum_read, read_line, write_end, quorum_write, write_line, refusal_in, vote_answer, prepare_line, any_line, is_nothing_here, release_line, end_line, ending_line}
+use Rattle.tq_txn.specs.Lines.{LocksView, purpose_of, choose_line, next_lock, locks_line, quorum_line, read_end, quorum_read, read_line, write_end, quorum_write, write_line, refusal_in, vote_answer, prepare_line, any_line, is_nothing_here, release_line, end_line, ending_line, down_line, stop_line, prepare_stop_line}
 use Rattle.tq_store.specs.declared.copies.FileCopy.{FileCopy}
 use Rattle.tq_evidence.specs.declared.op.OpKind.TheVariants as kinds
 use Rattle.tq_evidence.specs.Evidence.{greatest}
-use Rattle.tq_txn.specs.declared.read_answer.ReadAnswer.{ReadAnswer}
-use Rattle.tq_txn.specs.declared.read_answer.ReadAnswer.TheVariants.{Copy}
-use Rattle.tq_txn_states.specs.Voting.{VotingView, has_vote, ask_fault, prepare_ask, vote_fault, vote_after}
+use Rattle.tq_txn.specs.declared.txn.ReadAnswer.{ReadAnswer}
+use Rattle.tq_txn.specs.declared.txn.ReadAnswer.TheVariants.{Copy}
+use Rattle.tq_txn_states.specs.Voting.{VotingView, has_vote, ask_fault, prepare_ask, vote_fault, vote_after, prepare_work}
 use Rattle.tq_txn_states.specs.Open.{OpenView, ComesOf, has_all_ops, pending_content, op_read, op_written, read_fault, read_copy, read_after, write_fault, write_after, grants_of}
 use Rattle.tq_txn.specs.Dialogue.{Told, Dialogue, Ends, AsksNode, AsksDesk, AsksView, Makes, Begins, Follows, then_line, LineEnd, line_done, go_on, and_then, unless, ended_by, fault_of_ask, fault_of_txn, line_result, node_exchange, desk_exchange, view_exchange, node_line, desk_line, view_line}
+use Rattle.tq_asks.specs.declared.ask.NodeAsk.TheVariants.{CrashIn}
+use Rattle.tq_asks.specs.declared.ask.WorkAsk.{WorkAsk}
 
 begins_none : {A : Type 0} (line : Dialogue A) → Begins line []
 begins_none (Ends a) = refl
@@ -297,3 +300,25 @@ pub vote_asked : (old new : VotingView) (server : ℕ) (ask : NodeAsk) (answer :
 vote_asked old new server ask answer result told after new_voter may asks first last =
     let P : NodeAsk → Type 0 = λ a. Follows (node_line server a) told after (Some (record { answer = Ok answer; after = tt })) in
     rw (new_voter, may) (follows_on (node_line server (prepare_ask old.txn server)) (λ none. old) (λ t none. vote_answer old t) answer tt told after after (ended_by result new) (subst P asks first) last)
+
+-- ---- stop laws
+
+-- ---- the stop, and the mark
+
+module _ (server : ℕ) (ask : WorkAsk) (after : ℕ) (old : List Exchange) where
+  -- memory ran out in the ask
+  pub stop_off : (new : List Exchange) → Follows (any_line server (CrashIn after ask)) old new None → Follows (stop_line server ask after) old new None
+  stop_off new first = follows_off (any_line server (CrashIn after ask)) (λ none. none) (λ reply none. down_line server) faults.Memory tt tt old new refl first
+
+  pub stop_on : (reply : Option NodeReply) (mid new : List Exchange) (end : Option (LineEnd (Unit {0}) (Unit {0})))
+      → Follows (any_line server (CrashIn after ask)) old mid (Some (record { answer = Ok reply; after = tt })) → Follows (down_line server) mid new end → Follows (stop_line server ask after) old new end
+  stop_on reply mid new end first rest = follows_on (any_line server (CrashIn after ask)) (λ none. none) (λ reply none. down_line server) reply tt old mid new end first rest
+
+-- ---- a stop in a vote that met a fault
+
+pub vote_unstopped : (old : VotingView) (server after : ℕ) (ask : WorkAsk) (fault : LineFault) (told new : List Exchange) → has_vote old.votes server ≡ false → ask_fault old.txn server ≡ None → ask ≡ prepare_work old.txn server
+    → Follows (stop_line server ask after) told new (ended_by (Err fault) tt) → Follows (prepare_stop_line old server after) told new (ended_by (Err fault) old)
+vote_unstopped old server after ask fault told new new_voter may asks first =
+    let P : WorkAsk → Type 0 = λ a. Follows (stop_line server a after) told new (ended_by (Err fault) tt) in
+    rw (new_voter, may)
+    (follows_off (stop_line server (prepare_work old.txn server) after) (λ none. old) (λ all none. line_done false old) fault tt old told new refl (subst P asks first))

@@ -10,9 +10,9 @@ use Rattle.tq_desk.specs.declared.ask.DeskRefusal.TheVariants.{Decided}
 use Rattle.tq_desk.specs.declared.ask.DeskReply.{DeskReply}
 use Rattle.tq_live.specs.declared.view.ViewAsk.{ViewAsk}
 use Rattle.tq_live.specs.declared.view.ViewReply.{ViewReply}
-use Rattle.tq_part.specs.declared.fault.AskFault.{AskFault}
-use Rattle.tq_part.specs.declared.fault.AskFault.TheVariants as ask_faults
-use Rattle.tq_part.specs.declared.journaled.Answered.{Answered}
+use Rattle.tq_shape.specs.declared.fault.AskFault.{AskFault}
+use Rattle.tq_shape.specs.declared.fault.AskFault.TheVariants as ask_faults
+use Rattle.tq_shape.specs.declared.journaled.Answered.{Answered}
 use Rattle.tq_txn.specs.declared.asker.Exchange.{Exchange}
 use Rattle.tq_txn.specs.declared.asker.Exchange.TheVariants as exchanges
 use Rattle.tq_txn.specs.declared.asker.ViewTold.{ViewTold}

@@ -1,6 +1,5 @@
 pub mod Dialogue
 pub mod Lines
-pub mod States
-pub mod Commits
-pub mod Aborts
 pub mod Told
+pub mod Commits
+pub mod Script

@@ -29,18 +29,17 @@ use Rattle.tq_txn.specs.declared.fault.LineFault.{LineFault}
 use Rattle.tq_txn.specs.declared.fault.LineFault.TheVariants as faults
 use Rattle.tq_txn_states.specs.declared.fault.TxnFault.TheVariants.{NotAMember, TooManyOps}
 use Rattle.tq_txn_states.specs.declared.told.NodeTold.{NodeTold}
-use Rattle.tq_txn.specs.declared.read_answer.ReadAnswer.{ReadAnswer}
-use Rattle.tq_txn.specs.declared.read_answer.ReadAnswer.TheVariants.{Pending, Copy}
+use Rattle.tq_txn.specs.declared.txn.ReadAnswer.{ReadAnswer}
+use Rattle.tq_txn.specs.declared.txn.ReadAnswer.TheVariants.{Pending, Copy}
 use Rattle.tq_txn.specs.declared.operations.WantedLock.{WantedLock}
-use Rattle.tq_txn.specs.declared.applying.Applied.{Applied}
-use Rattle.tq_txn.specs.declared.applying.Applied.TheVariants.{Installed, Discarded}
-use Rattle.tq_txn_states.specs.Cited.{answers_of, grant_told}
+use Rattle.tq_txn.specs.declared.txn.Applied.{Applied}
+use Rattle.tq_txn.specs.declared.txn.Applied.TheVariants.{Installed, Discarded}
+use Rattle.tq_txn_states.specs.Voting.{answers_of, grant_told, VotingView, has_vote, ask_fault, prepare_work, prepare_ask, vote_fault, vote_after}
 use Rattle.tq_txn_states.specs.Ended.{EndedView, decide_ask}
 use Rattle.tq_txn.specs.declared.asker.Exchange.{Exchange}
 use Rattle.tq_txn.specs.Dialogue.{Told, Dialogue, LineEnd, Ends, AsksNode, Follows, line_done, ended_by, line_failed, and_then, unless, node_line, view_line}
 use Rattle.tq_txn.specs.Told.{AreHeard}
 use Rattle.tq_txn_states.specs.Open.{OpenView, IsTouched, pending_content, op_read, op_written, has_all_ops, read_fault, read_copy, read_after, write_fault, write_after, grants_of, touched_by, txn_after_rewrite}
-use Rattle.tq_txn_states.specs.Voting.{VotingView, has_vote, ask_fault, prepare_work, prepare_ask, vote_fault, vote_after}
 
 -- what a function of the answer says ends the line
 abbrev pub answers : {A S : Type 0} → Result A LineFault → S → Dialogue (LineEnd A S)

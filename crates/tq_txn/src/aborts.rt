@@ -1,9 +1,9 @@
 //! The abort of a transaction.
 
 ghost use Rattle.std.specs.Prelude.{◌≡◌, Some};
-ghost use Rattle.tq_txn.specs.Aborts as spec;
+ghost use Rattle.tq_txn.specs.Commits as spec;
 ghost use Rattle.tq_txn.specs.Dialogue as line;
-ghost use Rattle.tq_txn.specs.States as states;
+ghost use Rattle.tq_txn.specs.Told as states;
 ghost use Rattle.tq_txn.specs.Told.{IsEnding};
 
 use crate::endings::end_at_each;

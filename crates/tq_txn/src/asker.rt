@@ -5,8 +5,7 @@ use std::alloc::Global;
 use tq_asks::{NodeAsk, NodeReply};
 use tq_desk::{DeskAsk, DeskReply};
 use tq_live::{ViewAsk, ViewReply};
-use tq_part::{Answered, AskFault};
-use tq_shape::ServerId;
+use tq_shape::{Answered, AskFault, ServerId};
 
 /// The view's answer, as it was received: the ask, the reply, and the number of their entry in the view's journal.
 #[derive(Drop)]

@@ -7,9 +7,8 @@ ghost use Rattle.tq_txn.specs.Dialogue as line;
 ghost use Rattle.tq_txn.specs.Lines as spec;
 ghost use Rattle.tq_txn.specs.Told.{IsKnown};
 ghost use Rattle.tq_txn.specs.declared.asker.Exchange.{Exchange};
-ghost use Rattle.tq_txn_states.specs.Cited.{AddsVote};
+ghost use Rattle.tq_txn_states.specs.Voting.{AddsVote, IsVotedOn, has_vote};
 ghost use Rattle.tq_txn_states.specs.Ended.{decide_ask};
-ghost use Rattle.tq_txn_states.specs.Voting.{IsVotedOn, has_vote};
 
 use crate::{Applied, AskFault, Asker, Ended, LineFault, NodeTold, Txn, Voting};
 use std::alloc::{AllocError, Global};

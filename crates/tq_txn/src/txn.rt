@@ -1,10 +1,11 @@
-//! A transaction in any of its states.
+//! A transaction in any of its states, and what a read and a server with a verdict answer.
 
 ghost use Rattle.std.specs.Prelude.{◌≡◌};
-ghost use Rattle.tq_txn.specs.States as spec;
+ghost use Rattle.tq_txn.specs.Told as spec;
 
 use crate::{Ended, LineFault, Open, Voting};
 use tq_shape::Levels;
+use tq_store::{Content, FileCopy};
 
 /// A transaction, in one of its states.
 #[derive(Drop)]
@@ -50,4 +51,19 @@ pub struct Decision {
 pub struct Abortion {
     pub answer: Result<(), LineFault>,
     pub txn: Txn,
+}
+
+/// What a server did with a verdict.
+#[derive(Clone, Copy, Debug, PartialEq, Eq)]
+pub enum Applied {
+    Installed,
+    Discarded,
+}
+
+/// What a read of a file answers.
+#[derive(Drop)]
+pub enum ReadAnswer {
+    /// What the transaction itself has written, which nobody else sees yet.
+    Pending(Content),
+    Copy(FileCopy),
 }

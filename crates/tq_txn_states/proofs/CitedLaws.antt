@@ -21,12 +21,10 @@ use Rattle.tq_evidence.specs.declared.op.OpKind.TheVariants as kinds
 use Rattle.tq_evidence.specs.declared.vote.Vote.{Vote}
 use Rattle.tq_store.specs.Names.{same_name}
 use Rattle.tq_txn_states.specs.declared.told.NodeTold.{NodeTold}
-use Rattle.tq_txn_states.specs.Cited.{grant_told, answers_of, vote_told, AddsOnly, AddsVote, CitesOnly, IsOpTold, IsVoteTold, KeepsOnly, VotesOnly}
-use Rattle.tq_txn_states.specs.Open.{OpenView, fits, granted_by, grant_of, grants_of, txn_after_op, txn_after_rewrite}
+use Rattle.tq_txn_states.specs.Voting.{grant_told, answers_of, vote_told, AddsOnly, AddsVote, CitesOnly, IsOpTold, IsVoteTold, KeepsOnly, VotesOnly, VotingView, voted_by, vote_of, with_vote, voting_of, evidence_of, has_vote, is_of_server, txn_after_vote, vote_after}
+use Rattle.tq_txn_states.specs.Open.{OpenView, fits, granted_by, grant_of, grants_of, txn_after_op, txn_after_rewrite, put, with_first_changed}
 use Rattle.tq_evidence.specs.Evidence.{writes_file}
-use Rattle.tq_txn_states.specs.Sets.{put, with_first_changed}
-use Rattle.tq_txn_states.specs.Voting.{VotingView, voted_by, vote_of, with_vote, voting_of, evidence_of, has_vote, is_of_server, txn_after_vote, vote_after}
-use Rattle.tq_txn_states.proofs.Granted.{any_fit, grants_again}
+use Rattle.tq_txn_states.proofs.GoodGrants.{any_fit, grants_again}
 
 -- ---- lists
 

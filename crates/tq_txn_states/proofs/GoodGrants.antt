@@ -1,8 +1,28 @@
--- What a list of grants shows of the operation that rests on it.
-use Rattle.std.proofs.Common.{◌≡◌, ◌==◌, ◌+◌, ◌≤◌, ℕ, Bool, true, false, ◌||◌, ◌&&◌, cond, List, [], ◌∷◌, Option, Some, None, max, fold, refl, sym, ◌∙◌, arith, inl, inr, ◌⊎◌}
-use Rattle.std.specs.Cmp.Lexicographic.{nat_list_eq_equiv}
-use Rattle.std.specs.List.{list_all, list_any, find, cons_option}
-use Rattle.std.proofs.lemmas.Bool.{and_from, or_left, or_right, eq-eqb, false≢true, cases_lt}
+-- What a test of the coterie says of a list of servers. The answers that told of grants, and what an operation by them
+-- is refused for. What a list of grants shows of the operation that rests on it.
+use Rattle.std.proofs.Common.{◌≡◌, ◌==◌, ℕ, ◌-◌, ◌<◌, ◌≤◌, length, get_or, arith, true, false, ◌&&◌, List, [], ◌∷◌, refl, sym, ap, ◌∙◌, subst, not, cond, Some, None, is_none, ◌+◌, Bool, ◌||◌, Option, max, fold, inl, inr, ◌⊎◌}
+use Rattle.std.specs.List.{Contains, list_all, find, cons_option, list_any}
+use Rattle.std.proofs.lemmas.Bool.{false≢true, and_from, and_parts, and_right, eq-eqb, or_left, or_right, cases_lt}
+use Rattle.tq_coterie.specs.Coterie.{coterie, is_quorum, servers_of, numbers_of, IsMemberList}
+use Rattle.tq_shape.specs.Tree.{Server, IsServer}
+use Rattle.tq_evidence.specs.Evidence.{rises, granters, is_exclusively_granted, greatest, newest, has_version}
+use Rattle.tq_evidence.specs.declared.grant.Grant.{Grant}
+use Rattle.std.proofs.lemmas.List.{get_or-map, length-map}
+use Rattle.tq_coterie.proofs.Members.{members-meet}
+use Rattle.tq_coterie.proofs.Marked.{tested}
+use Rattle.tq_coterie.proofs.Parts.{Ascends-member, member-servers}
+use Rattle.std.specs.Cmp.Lexicographic.{same_text, nat_list_eq_equiv}
+use Rattle.std.proofs.lemmas.Map.Views.{Contains-from_any}
+use Rattle.tq_txn_states.proofs.Searched.{rises-ascends}
+use Rattle.std.specs.Option.{option_map}
+use Rattle.tq_shape.specs.Journal.{refuse, refuse_for, or_else}
+use Rattle.tq_store.specs.Names.{same_name}
+use Rattle.tq_evidence.specs.declared.op.OpKind.{OpKind}
+use Rattle.tq_evidence.specs.declared.op.OpKind.TheVariants.{Read, Write}
+use Rattle.tq_txn_states.specs.declared.told.NodeTold.{NodeTold}
+use Rattle.tq_txn_states.specs.declared.fault.TxnFault.TheVariants.{AlreadyThere, TooManyOps, NotAGrant, NotAMember}
+use Rattle.tq_txn_states.specs.Voting.{grant_told, answers_of}
+use Rattle.tq_txn_states.specs.Open.{OpenView, fits, grant_of, grants_of, not_a_grant, is_member, is_used, is_written, has_all_ops, grants_fault, read_fault, version_fault, write_fault, IsGoodOp, granted_by, read_op, write_op, copy_in}
 use Rattle.tq_locks.specs.Locks.{is_exclusive}
 use Rattle.tq_locks.specs.declared.mode.Mode.{Mode}
 use Rattle.tq_asks.specs.declared.ask.NodeAsk.{NodeAsk}
@@ -10,13 +30,124 @@ use Rattle.tq_asks.specs.declared.ask.NodeAsk.TheVariants.{Work}
 use Rattle.tq_asks.specs.declared.ask.NodeReply.{NodeReply}
 use Rattle.tq_asks.specs.declared.ask.NodeReply.TheVariants.{Granted}
 use Rattle.tq_asks.specs.declared.ask.WorkAsk.TheVariants.{Lock}
-use Rattle.tq_evidence.specs.declared.grant.Grant.{Grant}
-use Rattle.tq_evidence.specs.declared.op.OpKind.TheVariants.{Read, Write}
-use Rattle.tq_evidence.specs.Evidence.{greatest, newest, has_version, is_exclusively_granted}
-use Rattle.tq_store.specs.Names.{same_name}
-use Rattle.tq_txn_states.specs.declared.told.NodeTold.{NodeTold}
-use Rattle.tq_txn_states.specs.Open.{OpenView, IsGoodOp, granted_by, grant_of, grants_of, is_member, read_op, write_op, copy_in, is_used, is_written}
-use Rattle.tq_txn_states.proofs.Tested.{empty_set}
+
+pub no_member : (levels : ℕ) (numbers : List ℕ) → (Contains (coterie levels) numbers → ⊥) → is_quorum levels numbers ≡ false
+no_member levels numbers none = sym (tested levels numbers false (λ e. absurd (false≢true e), λ h. absurd (none h)))
+
+pub a_member : (levels : ℕ) (numbers : List ℕ) → Contains (coterie levels) numbers → is_quorum levels numbers ≡ true
+a_member levels numbers some = sym (tested levels numbers true (λ e. some, λ h. refl))
+
+pub empty_set : (levels : ℕ) → is_quorum levels [] ≡ false
+empty_set levels = no_member levels [] (λ h. let meets = members-meet (levels - 1) 1 [] [] h h in false≢true meets.1)
+
+-- a list that the test of the coterie finds is a member
+pub is_member_of : (levels : ℕ) (numbers : List ℕ) → is_quorum levels numbers ≡ true → Contains (coterie levels) numbers
+is_member_of levels numbers is = Contains-from_any (λ x y same. same_text x y (sym same)) numbers (coterie levels) is
+
+tested_rise : (levels : ℕ) (numbers : List ℕ) → is_quorum levels numbers ≡ true → rises numbers ≡ true
+tested_rise levels numbers is = rises-ascends 0 numbers (Ascends-member (levels - 1) 1 numbers (omega arith) (is_member_of levels numbers is))
+
+-- the servers of a quorum ascend, so the test of the coterie says that too
+pub rise_too : (levels : ℕ) (numbers : List ℕ) → is_quorum levels numbers ≡ (rises numbers && is_quorum levels numbers)
+rise_too levels numbers =
+    elim (is_quorum levels numbers) as (λ b. is_quorum levels numbers ≡ b → b ≡ (rises numbers && b)) [
+      | true ↦ λ is. sym (and_from (rises numbers) true (tested_rise levels numbers is) refl)
+      | false ↦ λ _. sym (and_right (rises numbers) false refl)
+    ] refl
+
+-- where they are a quorum, the server of each grant is one of its tree
+pub granter_of : (levels : ℕ) (grants : List Grant) (grant : Grant) (index : ℕ) → 1 ≤ levels → is_quorum levels (granters grants) ≡ true → index < length grants → grant ≡ get_or grants index grant → IsServer levels grant.server
+granter_of levels grants grant index some is within at =
+    let all = member-servers levels (granters grants) some (is_member_of levels (granters grants) is) in
+    let here : get_or (granters grants) index 0 ≡ grant.server = get_or-map (λ (g : Grant). g.server) grants index grant 0 within ∙ ap (λ (g : Grant). g.server) (sym at) in
+    subst (IsServer levels) here (all index 0 (rw (length-map grants (λ (g : Grant). g.server)) within))
+
+same_levels : (levels : ℕ) (numbers : List ℕ) → list_all (λ id. id.levels == levels) (servers_of levels numbers) ≡ true
+same_levels levels [] = refl
+same_levels levels (first ∷ rest) = and_from (levels == levels) (list_all (λ id. id.levels == levels) (servers_of levels rest)) (eq-eqb levels levels refl) (same_levels levels rest)
+
+-- the servers of a quorum are of its tree
+pub of_tree : (levels : ℕ) (servers : List Server) → IsMemberList levels servers → list_all (λ id. id.levels == levels) servers ≡ true
+of_tree levels servers is =
+    let P : List Server → Type 0 = λ ids. list_all (λ id. id.levels == levels) ids ≡ true in
+    subst P (sym is.tree) (same_levels levels (numbers_of servers))
+
+all_same : (levels tree : ℕ) (numbers : List ℕ) → (tree == levels) ≡ true → list_all (λ id. id.levels == levels) (servers_of tree numbers) ≡ true
+all_same levels tree [] is = refl
+all_same levels tree (first ∷ rest) is = and_from (tree == levels) (list_all (λ id. id.levels == levels) (servers_of tree rest)) is (all_same levels tree rest is)
+
+tree_tested : (levels tree : ℕ) (numbers : List ℕ) → (numbers ≡ [] → ⊥) → list_all (λ id. id.levels == levels) (servers_of tree numbers) ≡ (tree == levels)
+tree_tested levels tree [] some = absurd (some refl)
+tree_tested levels tree (first ∷ rest) some =
+    elim (tree == levels) as (λ b. (tree == levels) ≡ b → (b && list_all (λ id. id.levels == levels) (servers_of tree rest)) ≡ b) [
+      | true ↦ λ is. all_same levels tree rest is
+      | false ↦ λ is. refl
+    ] refl
+
+not_empty : (tree : ℕ) (servers : List Server) → IsMemberList tree servers → numbers_of servers ≡ [] → ⊥
+not_empty tree servers is none =
+    let P : List ℕ → Type 0 = λ numbers. is_quorum tree numbers ≡ true in
+    false≢true (sym (empty_set tree) ∙ subst P none (a_member tree (numbers_of servers) is.member))
+
+-- a test of each server of a quorum is one of its tree
+pub same_tree : (levels tree : ℕ) (servers : List Server) → IsMemberList tree servers → list_all (λ id. id.levels == levels) servers ≡ (tree == levels)
+same_tree levels tree servers is =
+    ap (list_all (λ (id : Server). id.levels == levels)) is.tree ∙ tree_tested levels tree (numbers_of servers) (not_empty tree servers is)
+
+-- the operation's grants are of a quorum, of whichever tree is this one
+pub quorum_found : (levels tree : ℕ) (granted found : List Grant) → (rises (granters granted) && is_quorum levels (granters granted)) ≡ true → found ≡ granted → levels ≡ tree → is_quorum tree (granters found) ≡ true
+quorum_found levels tree granted found good is same =
+    let quorum = and_parts (rises (granters granted)) (is_quorum levels (granters granted)) good in
+    rw (is, ← same) quorum.1
+
+-- ---- granted
+
+module _ (kind : OpKind) (txn : ℕ) (file : List ℕ) where
+  -- an answer tells of the grant that it was made of
+  told_again : (grant : Grant) → fits kind grant.mode ≡ true → grant_of kind txn file (grant_told txn file grant) ≡ Some grant
+  told_again grant fit =
+      let same = and_from (txn == txn) (same_name file file) (eq-eqb txn txn refl) (nat_list_eq_equiv.refl file) in
+      let test = and_from (txn == txn && same_name file file) (fits kind grant.mode) same fit in
+      ap (λ b. cond b (Some grant) None) test
+
+  pub grants_again : (grants : List Grant) → list_all (λ grant. fits kind grant.mode) grants ≡ true → grants_of kind txn file (answers_of txn file grants) ≡ grants
+  grants_again [] all = refl
+  grants_again (first ∷ rest) all =
+      let parts = and_parts (fits kind first.mode) (list_all (λ (grant : Grant). fits kind grant.mode) rest) all in
+      ap (λ found. cons_option found (grants_of kind txn file (answers_of txn file rest))) (told_again first parts.0) ∙ ap (λ more. first ∷ more) (grants_again rest parts.1)
+
+  none_refused : (grants : List Grant) → list_all (λ grant. fits kind grant.mode) grants ≡ true → not_a_grant kind txn file (answers_of txn file grants) ≡ None
+  none_refused [] all = refl
+  none_refused (first ∷ rest) all =
+      let parts = and_parts (fits kind first.mode) (list_all (λ (grant : Grant). fits kind grant.mode) rest) all in
+      ap (λ found. option_map (λ (told : NodeTold). told.server) (cond (is_none found) (Some (grant_told txn file first)) (find (λ told. is_none (grant_of kind txn file told)) (answers_of txn file rest)))) (told_again first parts.0)
+      ∙ none_refused rest parts.1
+
+no_fault : (kind : OpKind) (old : OpenView) (file : List ℕ) (grants : List Grant) → has_all_ops old ≡ false → is_member old.levels grants ≡ true → list_all (λ grant. fits kind grant.mode) grants ≡ true → grants_fault kind old file (answers_of old.txn file grants) ≡ None
+no_fault kind old file grants few member fit =
+    let answers = answers_of old.txn file grants in
+    ap (λ b. refuse b TooManyOps (refuse_for (not_a_grant kind old.txn file answers) NotAGrant (refuse (not (is_member old.levels (grants_of kind old.txn file answers))) NotAMember None))) few
+    ∙ ap (λ found. refuse_for found NotAGrant (refuse (not (is_member old.levels (grants_of kind old.txn file answers))) NotAMember None)) (none_refused kind old.txn file grants fit)
+    ∙ ap (λ all. refuse (not (is_member old.levels all)) NotAMember None) (grants_again kind old.txn file grants fit)
+    ∙ ap (λ b. refuse (not b) NotAMember None) member
+
+-- a read rests on locks of either mode
+pub any_fit : (grants : List Grant) → list_all (λ grant. fits Read grant.mode) grants ≡ true
+any_fit [] = refl
+any_fit (first ∷ rest) = any_fit rest
+
+pub read_as_told : (old : OpenView) (file : List ℕ) (grants : List Grant) → is_used old.ops file ≡ false → has_all_ops old ≡ false → is_member old.levels grants ≡ true → read_fault old file (answers_of old.txn file grants) ≡ None
+read_as_told old file grants fresh few member =
+    ap (λ b. refuse b AlreadyThere (grants_fault Read old file (answers_of old.txn file grants))) fresh ∙ no_fault Read old file grants few member (any_fit grants)
+
+pub write_as_told : (old : OpenView) (file : List ℕ) (grants : List Grant) → is_written old.ops file ≡ false → has_all_ops old ≡ false → is_member old.levels grants ≡ true → is_exclusively_granted grants ≡ true → write_fault old file (answers_of old.txn file grants) ≡ version_fault grants
+write_as_told old file grants fresh few member exclusive =
+    let answers = answers_of old.txn file grants in
+    ap (λ b. refuse b AlreadyThere (or_else (grants_fault Write old file answers) (version_fault (grants_of Write old.txn file answers)))) fresh
+    ∙ ap (λ fault. or_else fault (version_fault (grants_of Write old.txn file answers))) (no_fault Write old file grants few member exclusive)
+    ∙ ap version_fault (grants_again Write old.txn file grants exclusive)
+
+-- ---- good grants
 
 -- ---- the greatest version is that of a grant
 

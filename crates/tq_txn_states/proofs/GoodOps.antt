@@ -11,9 +11,8 @@ use Rattle.tq_evidence.specs.declared.grant.Grant.{Grant}
 use Rattle.tq_evidence.specs.declared.op.Op.{Op}
 use Rattle.tq_evidence.specs.Evidence.{is_write, servers_of, has_server, stands_before, ops_rise, has_quorum, has_exclusive_grants, has_version, writes_file}
 use Rattle.tq_store.specs.Names.{same_name}
-use Rattle.tq_txn_states.specs.Sets.{with_numbers}
-use Rattle.tq_txn_states.specs.Open.{OpenView, IsOpen, IsGoodOp, is_written, is_used, with_op, with_content, txn_after_op, txn_after_rewrite}
-use Rattle.tq_txn_states.proofs.NumberSets.{has-map, has-with_numbers}
+use Rattle.tq_txn_states.specs.Open.{with_numbers, OpenView, IsOpen, IsGoodOp, is_written, is_used, with_op, with_content, txn_after_op, txn_after_rewrite}
+use Rattle.tq_txn_states.proofs.Searched.{has-map, has-with_numbers}
 use Rattle.tq_txn_states.proofs.Puts.{list_all-put, list_any-put, list_all-changed, list_any-changed}
 
 -- the list has the operation's file, a write of it where the operation is one

@@ -1,17 +1,72 @@
--- A vote put at its place, and what a list of votes keeps.
-use Rattle.std.proofs.Common.{◌≡◌, ℕ, Bool, true, false, not, ◌&&◌, ◌==◌, cond, List, [], ◌∷◌, Some, None, map, set, length, slice_get, nat_lt, ◌≤◌, refl, sym, ap, ◌∙◌}
+-- The vote that an answer tells of, by the ask. A vote that is put in takes away no other server's. A vote put at its
+-- place, and what a list of votes keeps.
+use Rattle.std.proofs.Common.{◌≡◌, ℕ, true, false, List, Option, Some, None, Result, Ok, Err, refl, ◌==◌, Bool, ◌||◌, cond, [], ◌∷◌, nat_lt, subst, not, ◌&&◌, map, set, length, slice_get, ◌≤◌, sym, ap, ◌∙◌}
+use Rattle.std.specs.Prelude.{IfErr}
+use Rattle.std.proofs.lemmas.Bool.{false≢true, eqb-true, or_right}
+use Rattle.tq_store.specs.declared.write.Write.{Write}
+use Rattle.tq_asks.specs.declared.ask.HeldLock.{HeldLock}
+use Rattle.tq_asks.specs.declared.ask.NodeAsk.{NodeAsk}
+use Rattle.tq_asks.specs.declared.ask.NodeAsk.TheVariants.{Work}
+use Rattle.tq_asks.specs.declared.ask.NodeReply.{NodeReply}
+use Rattle.tq_asks.specs.declared.ask.NodeReply.TheVariants.{Yes}
+use Rattle.tq_asks.specs.declared.ask.WorkAsk.TheVariants.{Prepare}
+use Rattle.tq_txn_states.specs.declared.fault.TxnFault.{TxnFault}
+use Rattle.tq_txn_states.specs.declared.fault.TxnFault.TheVariants.{Memory}
+use Rattle.tq_txn_states.specs.Open.{ComesOf, put, with_first_changed}
+use Rattle.tq_txn_states.specs.Voting.{is_prepare_of, voted_by, KeepsVotes, has_vote, is_of_server, with_vote, VotingView, covers_op, writes_in, lost_file, IsVoting, IsGoodVote}
+use Rattle.tq_evidence.specs.declared.vote.Vote.{Vote}
 use Rattle.std.specs.List.{list_all, insert, find}
 use Rattle.std.specs.List.Sorted.{IsPartitionPoint}
 use Rattle.std.specs.Option.{option_map, option_map_or}
-use Rattle.std.proofs.lemmas.Bool.{eqb-true}
 use Rattle.tq_evidence.specs.declared.op.Op.{Op}
-use Rattle.tq_evidence.specs.declared.vote.Vote.{Vote}
 use Rattle.tq_evidence.specs.Evidence.{rises, votes_rise, has_writes, is_server_of}
-use Rattle.tq_txn_states.specs.Sets.{put, with_first_changed}
-use Rattle.tq_txn_states.specs.Voting.{VotingView, with_vote, covers_op, writes_in, has_vote, is_of_server, lost_file, IsVoting, IsGoodVote}
-use Rattle.tq_txn_states.proofs.NumberSets.{has-map, map-put, rises-with_server}
+use Rattle.tq_txn_states.proofs.Searched.{has-map, map-put, rises-with_server, found_at, put_at, changed_at}
 use Rattle.tq_txn_states.proofs.Puts.{list_all-put, list_all-changed}
-use Rattle.tq_txn_states.proofs.Searched.{found_at, put_at, changed_at}
+
+pub cast_none : (txn server number : ℕ) (ask : NodeAsk) (reply : NodeReply) → is_prepare_of txn ask ≡ false → voted_by txn server number ask reply ≡ None
+cast_none txn server number (Work (Prepare voter asked)) (Yes held writes) none = rw none refl
+cast_none txn server number ask reply none = refl
+
+pub cast_some : (txn server number : ℕ) (ask : NodeAsk) (held : List HeldLock) (writes : List Write) → is_prepare_of txn ask ≡ true → voted_by txn server number ask (Yes held writes) ≡ Some (record { server = server; number = number; held = held; writes = writes })
+cast_some txn server number (Work (Prepare voter asked)) held writes is = rw is refl
+cast_some txn server number ask held writes is = absurd (false≢true is)
+
+-- a cause that is told exactly
+pub comes_if : {A : Type 0} (result : Result A TxnFault) (cause : Option TxnFault) → IfErr result (λ fault. cause ≡ Some fault) → IfErr result (λ fault. ComesOf cause fault)
+comes_if (Ok a) cause is = tt
+comes_if (Err Memory) cause is = tt
+comes_if (Err fault) cause is = is
+
+-- ---- kept votes
+
+either : (a b c : Bool) → (b ≡ true → c ≡ true) → (a || b) ≡ true → (a || c) ≡ true
+either true b c h is = refl
+either false b c h is = h is
+
+kept_put : (later : Vote → Bool) (vote : Vote) (votes : List Vote) → KeepsVotes votes (put later vote votes)
+kept_put later vote [] n here = absurd (false≢true here)
+kept_put later vote (first ∷ rest) n here =
+    elim (later first) as (λ b. has_vote (cond b (vote ∷ first ∷ rest) (first ∷ put later vote rest)) n ≡ true) [
+      | true ↦ or_right (vote.server == n) (has_vote (first ∷ rest) n) here
+      | false ↦ either (first.server == n) (has_vote rest n) (has_vote (put later vote rest) n) (kept_put later vote rest n) here
+    ]
+
+kept_changed : (vote : Vote) (votes : List Vote) → KeepsVotes votes (with_first_changed (is_of_server vote.server) (λ other. vote) votes)
+kept_changed vote [] n here = here
+kept_changed vote (first ∷ rest) n here =
+    elim (first.server == vote.server) as (λ b. (first.server == vote.server) ≡ b → has_vote (cond b (vote ∷ rest) (first ∷ with_first_changed (is_of_server vote.server) (λ other. vote) rest)) n ≡ true) [
+      | true ↦ λ is. subst (λ (s : ℕ). ((s == n) || has_vote rest n) ≡ true) (eqb-true first.server vote.server is) here
+      | false ↦ λ is. either (first.server == n) (has_vote rest n) (has_vote (with_first_changed (is_of_server vote.server) (λ other. vote) rest) n) (kept_changed vote rest n) here
+    ] refl
+
+pub kept_with_vote : (vote : Vote) (votes : List Vote) → KeepsVotes votes (with_vote vote votes)
+kept_with_vote vote votes n here =
+    elim (has_vote votes vote.server) as (λ b. has_vote (cond b (with_first_changed (is_of_server vote.server) (λ other. vote) votes) (put (λ (other : Vote). nat_lt vote.server other.server) vote votes)) n ≡ true) [
+      | true ↦ kept_changed vote votes n here
+      | false ↦ kept_put (λ (other : Vote). nat_lt vote.server other.server) vote votes n here
+    ]
+
+-- ---- good votes
 
 pub votes_rise-map : (votes : List Vote) → votes_rise votes ≡ rises (map (λ vote. vote.server) votes)
 votes_rise-map [] = refl

@@ -1,14 +1,7 @@
 pub mod Puts
-pub mod NumberSets
 pub mod Searched
-pub mod Tested
 pub mod GoodGrants
-pub mod Granted
 pub mod GoodOps
 pub mod GoodVotes
 pub mod GoodEvidence
-pub mod KeptVotes
 pub mod CitedLaws
-pub mod CastLaws
-pub mod SameWrites
-pub mod OneGrant

@@ -5,8 +5,7 @@ use Rattle.std.specs.Option.{unwrap_or}
 use Rattle.std.proofs.Math.Bool.{or_assoc, or_comm}
 use Rattle.std.proofs.lemmas.Bool.{cases_lt, lt-ltb, le-ltb, and_parts, and_from, false≢true}
 use Rattle.std.proofs.lemmas.List.Sums.{prefix_len-le-length}
-use Rattle.tq_txn_states.specs.Places.{place_before}
-use Rattle.tq_txn_states.specs.Sets.{put, with_first_changed}
+use Rattle.tq_txn_states.specs.Open.{place_before, put, with_first_changed}
 
 unwrapped : (place len : ℕ) → place ≤ len → unwrap_or (cond (ltb place len) (Some place) None) len ≡ place
 unwrapped place len within =

@@ -1,14 +1,18 @@
--- An open transaction: what it has read and written, and what an answer that it is told makes of it.
-use Rattle.std.specs.Prelude.{◌≡◌, ◌==◌, ◌+◌, ◌^◌, ℕ, Bool, true, false, not, ◌&&◌, nat_lt, nat_le, List, [], length, Option, Some, None, is_none, if◌then◌else◌}
+-- The place in a list before the first value that is later, or its end. Lists in order: sets of servers as the
+-- ascending lists of their numbers, and a value put at its place. An open transaction: what it has read and written,
+-- and what an answer that it is told makes of it.
+use Rattle.std.specs.Prelude.{ℕ, Bool, List, length, position, ◌≡◌, ◌==◌, ◌≤◌, true, false, [], ◌∷◌, fold, nat_lt, if◌then◌else◌, ◌+◌, ◌^◌, not, ◌&&◌, nat_le, Option, Some, None, is_none}
+use Rattle.std.specs.Option.{unwrap_or, option_map}
 use Rattle.std.specs.List.{list_all, list_any, find, filter_map}
-use Rattle.std.specs.Option.{option_map}
+use Rattle.tq_shape.specs.Tree.{Server}
+use Rattle.tq_coterie.specs.Coterie.{has, with_server, numbers_of, is_quorum}
+use Rattle.tq_evidence.specs.Evidence.{rises, is_write, servers_of, greatest, newest, is_server_of, ops_rise, are_quorums, are_exclusive, are_versions, has_quorum, has_exclusive_grants, has_version, writes_file, granters}
 use Rattle.std.specs.Ordering.{is_lt}
 use Rattle.tq_shape.specs.Limits.{LimitsView}
 use Rattle.tq_store.specs.Copies.{name_cmp}
 use Rattle.tq_store.specs.declared.copies.FileCopy.{FileCopy}
 use Rattle.tq_locks.specs.Locks.{is_exclusive}
 use Rattle.tq_locks.specs.declared.mode.Mode.{Mode}
-use Rattle.tq_coterie.specs.Coterie.{has, is_quorum}
 use Rattle.tq_asks.specs.declared.ask.NodeAsk.{NodeAsk}
 use Rattle.tq_asks.specs.declared.ask.NodeAsk.TheVariants.{Work}
 use Rattle.tq_asks.specs.declared.ask.NodeReply.{NodeReply}
@@ -18,14 +22,59 @@ use Rattle.tq_evidence.specs.declared.grant.Grant.{Grant}
 use Rattle.tq_evidence.specs.declared.op.Op.{Op}
 use Rattle.tq_evidence.specs.declared.op.OpKind.{OpKind}
 use Rattle.tq_evidence.specs.declared.op.OpKind.TheVariants.{Read, Write}
-use Rattle.tq_evidence.specs.Evidence.{is_write, servers_of, rises, greatest, newest, is_server_of, ops_rise, are_quorums, are_exclusive, are_versions, has_quorum, has_exclusive_grants, has_version, writes_file, granters}
 use Rattle.tq_store.specs.Names.{same_name}
 use Rattle.tq_txn_states.specs.declared.told.NodeTold.{NodeTold}
 use Rattle.tq_txn_states.specs.declared.fault.TxnFault.{TxnFault}
 use Rattle.tq_txn_states.specs.declared.fault.TxnFault.TheVariants.{Memory, AlreadyThere, TooManyOps, NotAGrant, NotAMember, VersionFull, NoOps}
-use Rattle.tq_txn_states.specs.Sets.{IsWithin, put, with_first_changed, with_number, with_numbers}
-use Rattle.tq_shape.specs.Steps.{refuse, refuse_for, or_else}
-use Rattle.tq_shape.specs.Journal.{is_empty}
+use Rattle.tq_shape.specs.Journal.{refuse, refuse_for, or_else, is_empty}
+
+abbrev pub place_before : {X : Type 0} → (X → Bool) → List X → ℕ
+place_before later xs = unwrap_or (position later xs) (length xs)
+
+-- ---- sets
+
+-- the set with a server, which it may have already
+abbrev pub with_number : List ℕ → ℕ → List ℕ
+with_number numbers number = if has numbers number then numbers else with_server number numbers
+
+abbrev pub with_numbers : List ℕ → List ℕ → List ℕ
+with_numbers numbers others = fold with_number numbers others
+
+-- what is seen of a set that may grow: its servers, the levels of their tree, and how many more take no memory
+pub record RoomySet : Type 0 where
+  pub servers : List ℕ
+  pub levels : ℕ
+  pub room : ℕ
+
+-- a set that is to grow by these servers has room for them, and one that is not has them all
+abbrev pub IsReady : RoomySet → Bool → List ℕ → Type 0
+IsReady set true numbers = length numbers ≤ set.room
+IsReady set false numbers = list_all (has set.servers) numbers ≡ true
+
+-- each server of the first set is in the second
+abbrev pub IsWithin : List ℕ → List ℕ → Type 0
+IsWithin few many = (server : ℕ) → has few server ≡ true → has many server ≡ true
+
+-- the list with a value more, before the first that is later
+abbrev pub put : {X : Type 0} → (X → Bool) → X → List X → List X
+put later x [] = x ∷ []
+put later x (first ∷ rest) = if later first then x ∷ first ∷ rest else first ∷ put later x rest
+
+-- the servers with one more, before the first above it
+abbrev pub with_id : Server → List Server → List Server
+with_id server ids = put (λ id. nat_lt server.number id.number) server ids
+
+-- the list with the first value that passes the test changed
+abbrev pub with_first_changed : {X : Type 0} → (X → Bool) → (X → X) → List X → List X
+with_first_changed test change [] = []
+with_first_changed test change (first ∷ rest) = if test first then change first ∷ rest else first ∷ with_first_changed test change rest
+
+-- the servers strictly ascend, and are of a tree of these levels
+pub record IsServerSet (levels : ℕ) (ids : List Server) : Type 0 where
+  pub rise : rises (numbers_of ids) ≡ true
+  pub tree : list_all (λ id. id.levels == levels) ids ≡ true
+
+-- ---- open
 
 -- a transaction: its tree's levels, its limits and number; its operations, by file and a read before a write;
 -- the servers of their quorums; and the servers that granted it a lock, as far as it was handed them

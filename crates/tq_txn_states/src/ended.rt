@@ -5,7 +5,7 @@ ghost use Rattle.tq_coterie.specs.Coterie.{numbers_of};
 ghost use Rattle.tq_desk.specs.DeskStep as log;
 ghost use Rattle.tq_txn_states.specs.Ended as spec;
 ghost use Rattle.tq_txn_states.specs.Open.{ComesOf};
-ghost use Rattle.tq_txn_states.specs.Sets as sets;
+ghost use Rattle.tq_txn_states.specs.Open as sets;
 
 use crate::servers::Servers;
 use crate::{DeskTold, Open, TxnFault};

@@ -1,7 +1,7 @@
 //! Grants, from the answers that tell of them.
 
 ghost use Rattle.std.specs.Prelude.{◌≡◌, ◌+◌, ◌==◌, IfOk, IfErr, None, OnOk, Some, map};
-ghost use Rattle.tq_shape.specs.Steps.{refuse_for};
+ghost use Rattle.tq_shape.specs.Journal.{refuse_for};
 ghost use Rattle.tq_txn_states.specs.Open as spec;
 
 use crate::{NodeTold, TxnFault};

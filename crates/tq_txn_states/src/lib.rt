@@ -1,6 +1,6 @@
 //! The states of a client's transaction as types: it reads and writes, it gathers votes, it has ended.
 //!
-//! Definitions: `specs/Open`, `Voting`, `Ended`, `Cited`.
+//! Definitions: `specs/Open`, `Voting`, `Ended`.
 #![tactic(auto)]
 
 mod ended;

@@ -7,13 +7,10 @@ ghost use Rattle.std.specs.Ordering.{is_lt};
 ghost use Rattle.tq_store.specs.Copies.{name_cmp};
 ghost use Rattle.tq_coterie.specs.Coterie.{numbers_of};
 ghost use Rattle.tq_evidence.specs.Evidence as evidence;
-ghost use Rattle.tq_txn_states.specs.Places.{place_before};
-ghost use Rattle.tq_txn_states.specs.Sets as sets;
-ghost use Rattle.tq_txn_states.specs.Cited.{AddsOnly, KeepsOnly, VotesOnly, answers_of};
-ghost use Rattle.tq_txn_states.specs.Ended as ending;
+ghost use Rattle.tq_txn_states.specs.Open.{place_before, ComesOf, IsBack, close_fault, grants_fault, read_op, txn_after_op, write_after, write_op};
 ghost use Rattle.tq_txn_states.specs.Open as spec;
-ghost use Rattle.tq_txn_states.specs.Open.{ComesOf, IsBack, close_fault, grants_fault, read_op, txn_after_op, write_after, write_op};
-ghost use Rattle.tq_txn_states.specs.Voting.{voting_of};
+ghost use Rattle.tq_txn_states.specs.Voting.{AddsOnly, KeepsOnly, VotesOnly, answers_of, voting_of};
+ghost use Rattle.tq_txn_states.specs.Ended as ending;
 
 use crate::ended::verdict_of;
 use crate::grants::{ReadTwice, grants_of, read_twice};
@@ -150,7 +147,7 @@ impl Open {
     /// The servers of the quorums of its operations, ascending.
     pub fn voters(&self) -> &[ServerId]
         ensures numbers { numbers_of result.now ≡ self.now.voters }
-        ensures set { sets.IsServerSet self.now.levels result.now }
+        ensures set { spec.IsServerSet self.now.levels result.now }
         ensures exact { spec.HasVoters self.now }
     {
         self.voters.as_slice()
@@ -159,7 +156,7 @@ impl Open {
     /// The servers that granted it a lock, as far as it was handed them, ascending.
     pub fn servers(&self) -> &[ServerId]
         ensures numbers { numbers_of result.now ≡ self.now.touched }
-        ensures set { sets.IsServerSet self.now.levels result.now }
+        ensures set { spec.IsServerSet self.now.levels result.now }
     {
         self.touched.as_slice()
     }

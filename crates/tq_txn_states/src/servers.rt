@@ -6,7 +6,7 @@ ghost use Rattle.std.specs.List.Sorted.{IsPartitionPoint};
 ghost use Rattle.std.specs.Option.{option_map_or};
 ghost use Rattle.tq_coterie.specs.Coterie.{has, is_quorum, numbers_of};
 ghost use Rattle.tq_evidence.specs.Evidence.{granters, rises};
-ghost use Rattle.tq_txn_states.specs.Sets.{IsReady, IsServerSet, with_id, with_number, with_numbers};
+ghost use Rattle.tq_txn_states.specs.Open.{IsReady, IsServerSet, with_id, with_number, with_numbers};
 
 use std::alloc::Global;
 use std::marker::Model;
@@ -23,7 +23,7 @@ pub(crate) struct Servers {
 impl Model for Servers {
     ghost use Rattle.std.specs.Prelude.{◌-◌, vec_capacity, vec_len};
     ghost use Rattle.tq_coterie.specs.Coterie.{numbers_of};
-    ghost use Rattle.tq_txn_states.specs.Sets.{IsServerSet, RoomySet};
+    ghost use Rattle.tq_txn_states.specs.Open.{IsServerSet, RoomySet};
 
     ghost Value = { RoomySet };
 

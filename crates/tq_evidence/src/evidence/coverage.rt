@@ -2,7 +2,6 @@
 
 ghost use Rattle.std.specs.Prelude.{◌≡◌, IfOk, true};
 ghost use Rattle.tq_evidence.specs.Evidence as spec;
-ghost use Rattle.tq_evidence.specs.InOrder as order;
 
 use crate::evidence::listed::Listed;
 use crate::evidence::servers::is_server_of;
@@ -12,7 +11,7 @@ use tq_shape::Memory;
 use tq_store::FileName;
 
 pub(crate) fn are_covered(alloc: Global, ops: &[Op], votes: &[Vote]) -> Result<bool, Memory>
-    requires { order.are_in_order ops.now ≡ true }
+    requires { spec.are_in_order ops.now ≡ true }
     ensures { IfOk result (λ holds. holds ≡ spec.are_covered ops.now votes.now) }
 {
     if !votes_rise(votes) {
@@ -36,7 +35,7 @@ fn votes_rise(votes: &[Vote]) -> bool
 }
 
 fn are_of_servers(ops: &[Op], votes: &[Vote]) -> bool
-    requires { order.are_in_order ops.now ≡ true }
+    requires { spec.are_in_order ops.now ≡ true }
     ensures { result ≡ spec.are_of_servers ops.now votes.now }
 {
     match votes {
@@ -57,7 +56,7 @@ fn listed_votes<'a>(alloc: Global, votes: &'a [Vote]) -> Result<Vec<Listed<'a>>,
 }
 
 fn are_grants_covered(ops: &[Op], lists: &[Listed<'_>]) -> bool
-    ensures { result ≡ order.are_walked lists.now ops.now }
+    ensures { result ≡ spec.are_walked lists.now ops.now }
 {
     match ops {
         [] => true,
@@ -66,7 +65,7 @@ fn are_grants_covered(ops: &[Op], lists: &[Listed<'_>]) -> bool
 }
 
 fn is_covered(op: &Op, lists: &[Listed<'_>]) -> bool
-    ensures { result ≡ order.is_walked lists.now op.now }
+    ensures { result ≡ spec.is_walked lists.now op.now }
 {
     let grants = op.grants.as_slice();
     are_covered_in_order(&op.file, lists, grants)
@@ -74,7 +73,7 @@ fn is_covered(op: &Op, lists: &[Listed<'_>]) -> bool
 
 /// Whether the votes cover the grants, in one walk through both, which ascend by server.
 fn are_covered_in_order(file: &FileName, lists: &[Listed<'_>], grants: &[Grant]) -> bool
-    ensures { result ≡ order.walk file.now lists.now grants.now }
+    ensures { result ≡ spec.walk file.now lists.now grants.now }
 {
     match lists {
         [] => grants.is_empty(),

@@ -3,7 +3,7 @@
 ghost use Rattle.std.specs.Prelude.{◌≡◌, IfOk, OnOk};
 ghost use Rattle.std.specs.FinMap as fin;
 ghost use Rattle.std.specs.Option.{option_copied};
-ghost use Rattle.tq_evidence.specs.Held as spec;
+ghost use Rattle.tq_evidence.specs.Evidence as spec;
 
 use std::alloc::Global;
 use std::collections::BTreeMap;
@@ -21,7 +21,7 @@ pub(crate) struct HeldSince {
 
 impl Model for HeldSince {
     ghost use Rattle.std.specs.FinMap as map;
-    ghost use Rattle.tq_evidence.specs.Held.{LeastSince, least_code};
+    ghost use Rattle.tq_evidence.specs.Evidence.{LeastSince, least_code};
 
     ghost Value = { LeastSince };
 

@@ -1,11 +1,12 @@
-//! Rule 1: each op's servers strictly ascend and are a quorum.
+//! Rule 1: each op's servers strictly ascend and are a quorum. Rule 2: each grant of a write is exclusive.
 
 ghost use Rattle.std.specs.Prelude.{◌≡◌, IfOk};
 ghost use Rattle.tq_evidence.specs.Evidence as spec;
 
-use crate::{Op, granters, rises};
+use crate::{Grant, Op, granters, rises};
 use std::alloc::Global;
 use tq_coterie::is_quorum;
+use tq_locks::Mode;
 use tq_shape::{Levels, Memory};
 
 pub(crate) fn are_quorums(alloc: Global, levels: Levels, ops: &[Op]) -> Result<bool, Memory>
@@ -24,4 +25,22 @@ fn has_quorum(alloc: Global, levels: Levels, op: &Op) -> Result<bool, Memory>
 {
     let servers = granters(alloc, op.grants.as_slice())?;
     Ok(rises(servers.as_slice()) && is_quorum(levels, servers.as_slice()))
+}
+
+pub(crate) fn are_exclusive(ops: &[Op]) -> bool
+    ensures { result ≡ spec.are_exclusive ops.now }
+{
+    ops.iter().all(|op| has_exclusive_grants(op))
+}
+
+fn has_exclusive_grants(op: &Op) -> bool
+    ensures { result ≡ spec.has_exclusive_grants op.now }
+{
+    !op.is_write() || is_exclusively_granted(op.grants.as_slice())
+}
+
+fn is_exclusively_granted(grants: &[Grant]) -> bool
+    ensures { result ≡ spec.is_exclusively_granted grants.now }
+{
+    grants.iter().all(|grant| grant.mode == Mode::Exclusive)
 }

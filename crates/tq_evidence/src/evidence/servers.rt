@@ -2,13 +2,12 @@
 
 ghost use Rattle.std.specs.Prelude.{◌≡◌, map, true};
 ghost use Rattle.tq_evidence.specs.Evidence as spec;
-ghost use Rattle.tq_evidence.specs.InOrder as order;
 
 use crate::{Grant, Op};
 
 /// Whether some op has the server.
 pub(crate) fn is_server_of(ops: &[Op], server: u64) -> bool
-    requires { order.are_in_order ops.now ≡ true }
+    requires { spec.are_in_order ops.now ≡ true }
     ensures { result ≡ spec.is_server_of ops.now server }
 {
     match ops {
@@ -28,7 +27,7 @@ pub(crate) fn finds_server(op: &Op, server: u64) -> bool
 
 fn is_granted(grants: &[Grant], server: u64) -> bool
     requires { spec.rises (spec.granters grants.now) ≡ true }
-    ensures { result ≡ order.is_granter grants.now server }
+    ensures { result ≡ spec.is_granter grants.now server }
 {
     if grants.is_empty() {
         return false;

@@ -3,7 +3,6 @@
 ghost use Rattle.std.specs.Prelude.{◌≡◌, IfOk, filter, map, true};
 ghost use Rattle.std.specs.List.{list_all};
 ghost use Rattle.tq_evidence.specs.Evidence as spec;
-ghost use Rattle.tq_evidence.specs.InOrder as order;
 
 use crate::evidence::servers::finds_server;
 use crate::{Op, Vote};
@@ -12,7 +11,7 @@ use tq_shape::Memory;
 use tq_store::Write;
 
 pub(crate) fn have_writes(alloc: Global, ops: &[Op], votes: &[Vote]) -> Result<bool, Memory>
-    requires { order.are_in_order ops.now ≡ true }
+    requires { spec.are_in_order ops.now ≡ true }
     ensures { IfOk result (λ holds. holds ≡ spec.have_writes ops.now votes.now) }
 {
     let writes = writes_by_file(alloc, ops)?;
@@ -21,7 +20,7 @@ pub(crate) fn have_writes(alloc: Global, ops: &[Op], votes: &[Vote]) -> Result<b
 
 /// Whether each vote has the writes of its server.
 fn are_voted(writes: &[&Op], votes: &[Vote]) -> bool
-    requires { order.are_in_order (map (λ op. op.now) writes.now) ≡ true }
+    requires { spec.are_in_order (map (λ op. op.now) writes.now) ≡ true }
     ensures { result ≡ list_all (spec.has_writes (map (λ op. op.now) writes.now)) votes.now }
 {
     match votes {
@@ -55,14 +54,14 @@ fn write_ops<'a>(alloc: Global, ops: &'a [Op]) -> Result<Vec<&'a Op>, Memory>
 }
 
 fn has_writes(writes: &[&Op], vote: &Vote) -> bool
-    requires { order.are_in_order (map (λ op. op.now) writes.now) ≡ true }
+    requires { spec.are_in_order (map (λ op. op.now) writes.now) ≡ true }
     ensures { result ≡ spec.has_writes (map (λ op. op.now) writes.now) vote.now }
 {
     are_writes_at(vote.server, vote.writes.as_slice(), writes)
 }
 
 fn are_writes_at(server: u64, voted: &[Write], writes: &[&Op]) -> bool
-    requires { order.are_in_order (map (λ op. op.now) writes.now) ≡ true }
+    requires { spec.are_in_order (map (λ op. op.now) writes.now) ≡ true }
     ensures { result ≡ spec.are_writes_at server voted.now (map (λ op. op.now) writes.now) }
 {
     match writes {

@@ -2,17 +2,14 @@
 
 ghost use Rattle.std.specs.Prelude.{◌≡◌, ◌+◌, ◌*◌, ◌^◌, ◌<◌, ◌≤◌, ◌↔◌, IfSome, Some, None, cond, is_some, IsTrue};
 ghost use Rattle.tq_live.specs.Subtree.{Over, leaves};
-ghost use Rattle.tq_live.specs.Kept.{cache_of, column_over, least_kept, form_kept};
-ghost use Rattle.tq_live.specs.Kept.{blocker_weight, IsLight};
-ghost use Rattle.tq_live.specs.Form.{form_of};
-ghost use Rattle.tq_live.specs.Form as spec;
-ghost use Rattle.tq_live.specs.Below.{subtree_of};
+ghost use Rattle.tq_live.specs.Kept.{cache_of, column_over, least_kept, form_kept, blocker_weight, IsLight, form_of, subtree_of};
+ghost use Rattle.tq_live.specs.Kept as spec;
 ghost use Rattle.tq_live.specs.Costs.{AreLow};
 
 use crate::costs::Costs;
+use crate::least::SearchFor;
 use crate::node::{Below, Sides};
 use crate::purpose::Purpose;
-use crate::search_for::SearchFor;
 use crate::weight::{Form, Weight};
 use std::marker::Model;
 use tq_shape::Levels;

@@ -1,9 +1,7 @@
 //! Asks that are answered at once, with no plan of their change, and their replies told twice.
 ghost use Rattle.std.specs.Prelude.{◌≡◌, ◌<◌, [], false, OnOk, OnErr, IfOk};
 ghost use Rattle.tq_node.specs.Node as node;
-ghost use Rattle.tq_node.specs.Telling.{IsEndTold, IsLockTold, IsTold};
-ghost use Rattle.tq_node.specs.Telling.{IsVoteTold, IsWorkTold};
-ghost use Rattle.tq_node.specs.Telling.{KeepsUntold, ReachesTold};
+ghost use Rattle.tq_node.specs.Telling.{IsEndTold, IsLockTold, IsTold, IsVoteTold, IsWorkTold, KeepsUntold, ReachesTold};
 
 use super::Node;
 use crate::votes::locks_of;
@@ -11,8 +9,7 @@ use crate::{CitedVote, NodeAsk, NodeRefusal, NodeReply, Raised, Telling, Verdict
 use std::alloc::Global;
 use tq_intents::SharedWrite;
 use tq_locks::{LockOutcome, Mode};
-use tq_part::Plan;
-use tq_shape::{Memory, Shared, SharedSeq};
+use tq_shape::{Memory, Plan, Shared, SharedSeq};
 use tq_store::{Content, FileName, Write};
 
 impl Node {

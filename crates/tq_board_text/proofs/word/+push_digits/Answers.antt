@@ -1,5 +1,5 @@
 use Rattle.std.proofs.Common.{◌∷◌, [], string_bytes, ap, ◌∙◌, arith}
-use Rattle.tq_board_text.proofs.Digits.{one_digit, last_digit}
+use Rattle.tq_board_text.proofs.Listing.{one_digit, last_digit}
 use Rattle.tq_board_text.proofs.word.+push_digits.Goals as goal
 
 pub returns-then-number-lt10 : goal.returns-then-number-lt10

@@ -1,5 +1,5 @@
 use Rattle.std.proofs.Common.{◌≡◌, rules}
-use Rattle.tq_cluster.proofs.LegalParts.{desk_legal}
+use Rattle.tq_cluster.proofs.Closing.{desk_legal}
 use Rattle.tq_cluster.proofs.journals.desk_journal.Goals as goal
 
 pub returns-clause-legal : goal.returns-clause-legal

@@ -1,6 +1,6 @@
 use Rattle.std.proofs.Common.{◌∙◌, ap, sym}
 use Rattle.tq_node.specs.Node.{NodeView}
-use Rattle.tq_cluster.proofs.LegalParts.{node_legal}
+use Rattle.tq_cluster.proofs.Closing.{node_legal}
 use Rattle.tq_cluster.proofs.journals.server_journal.Goals as goal
 
 pub returns-clause-legal : goal.returns-clause-legal

@@ -6,11 +6,9 @@ use denote.Exit.{no}
 use Rattle.std.proofs.Crossing.{send}
 use Rattle.crossbeam_channel.specs.Claims.{view}
 use Rattle.tq_cluster.specs.declared.workers.WorkerPromise.{WorkerPromise}
-use Rattle.tq_cluster.specs.Backwards.{Works}
-use Rattle.tq_cluster.specs.Clients.{BeginsJobs}
-use Rattle.tq_cluster.proofs.OfParts.{all_and}
-use Rattle.tq_cluster.proofs.Callers.{joined, one_worker_more}
-use Rattle.tq_cluster.proofs.Crossing.{caller_send, taker_send, cluster_sync, five_send}
+use Rattle.tq_cluster.specs.Clients.{Works, BeginsJobs}
+use Rattle.tq_cluster.proofs.Callers.{all_and, joined, one_worker_more}
+use Rattle.tq_cluster.proofs.Seen.{caller_send, taker_send, cluster_sync, five_send}
 use Rattle.tq_cluster.proofs.workers.+run_workers.Goals as goal
 
 pub spawn_with-child-requires-send-F : goal.spawn_with-child-requires-send-F

@@ -1,8 +1,7 @@
 use Rattle.std.proofs.Common.{◌≡◌, false}
 use Rattle.crossbeam_channel.specs.Claims.{view}
 use Rattle.crossbeam_channel.specs.Ends.{receives_on}
-use Rattle.tq_cluster.specs.Clients.{JobsBegin, JobsMake}
-use Rattle.tq_cluster.specs.Backwards.{jobs_in}
+use Rattle.tq_cluster.specs.Clients.{JobsBegin, JobsMake, jobs_in}
 use Rattle.tq_cluster.proofs.workers.work.Given as goal
 
 -- the caller was told what the jobs so far ask, or the first of it where memory ran out

@@ -1,4 +1,4 @@
-use Rattle.tq_shape.specs.Depth.{height_of}
+use Rattle.tq_shape.specs.Tree.{height_of}
 use Rattle.tq_coterie.proofs.holding.+holds_member_under.Given as goal
 
 abbrev pub decreases-holds_member_under : goal.decreases-holds_member_under

@@ -1,6 +1,6 @@
 use Rattle.std.proofs.Common.{◌≡◌, true, eqb, refl, sym, ◌∙◌}
 use Rattle.std.proofs.lemmas.Bool.{eq-eqb, not-false}
-use Rattle.tq_coterie.proofs.Sameness.{same-servers}
+use Rattle.tq_coterie.proofs.Sets.{same-servers}
 use Rattle.tq_coterie.proofs.member.are_same.Goals as goal
 
 pub returns : goal.returns

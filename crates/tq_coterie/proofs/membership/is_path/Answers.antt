@@ -2,8 +2,7 @@ use Rattle.std.proofs.Common.{rules, ◌≡◌, ◌-◌, ◌+◌, ◌∷◌, Lis
 use Rattle.std.specs.List.{Contains}
 use Rattle.std.proofs.lemmas.List.{drop_more, drop_all}
 use Rattle.tq_coterie.specs.Coterie.{members}
-use Rattle.tq_coterie.proofs.Members.{Contains-leaf}
-use Rattle.tq_coterie.proofs.Paths.{Contains-with_side}
+use Rattle.tq_coterie.proofs.Members.{Contains-leaf, Contains-with_side}
 use Rattle.tq_coterie.proofs.membership.is_path.Goals as goal
 
 pub loop-number-preserved : goal.loop-number-preserved

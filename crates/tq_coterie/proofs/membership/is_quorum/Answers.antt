@@ -1,4 +1,4 @@
-use Rattle.tq_coterie.proofs.Tested.{tested}
+use Rattle.tq_coterie.proofs.Marked.{tested}
 use Rattle.tq_coterie.proofs.membership.is_quorum.Goals as goal
 
 pub returns : goal.returns

@@ -1,5 +1,5 @@
 use Rattle.std.proofs.Common.{◌≡◌, ◌++◌, drop}
-use Rattle.tq_desk.specs.DeskChanges.{names_written}
+use Rattle.tq_desk.specs.DeskPlans.{names_written}
 use Rattle.tq_desk.proofs.files.written_list.Given as goal
 
 abbrev pub invariant-loop-op : goal.invariant-loop-op

@@ -1,6 +1,6 @@
 use Rattle.tq_desk.proofs.DeskFinal as final
 use Rattle.tq_desk.proofs.DecisionLog as log
-use Rattle.tq_desk.proofs.WrittenNames as names
+use Rattle.tq_desk.proofs.NewFiles as names
 use Rattle.tq_desk.proofs.laws.decision_log.Goals as goal
 
 pub returns : goal.returns

@@ -1,7 +1,6 @@
 use Rattle.std.proofs.Common.{[], Ok, Err, refl, subst, inl, inr}
-use Rattle.tq_part.specs.Agrees.{standing_part}
-use Rattle.tq_host.specs.Lines.{BeginsWith}
-use Rattle.tq_host.specs.Replay.{IsReplayFault}
+use Rattle.tq_shape.specs.Agrees.{standing_part}
+use Rattle.tq_host.specs.Lines.{BeginsWith, IsReplayFault}
 use Rattle.tq_devices.proofs.Written.{Appends-none}
 use Rattle.tq_host.proofs.hosting.host.Goals as goal
 

@@ -1,6 +1,6 @@
 use Rattle.std.proofs.Common.{◌≡◌, ◌<◌, ◌+◌, Some, false, length, sym, ap, ◌∙◌, inr, arith, rules}
 use Rattle.std.proofs.lemmas.Bool.{iff_false}
-use Rattle.tq_part.specs.Agrees.{next_number, state_after_entry}
+use Rattle.tq_shape.specs.Agrees.{next_number, state_after_entry}
 use Rattle.tq_host.proofs.replaying.enter_line.Goals as goal
 
 pub returns-clause-ok : goal.returns-clause-ok

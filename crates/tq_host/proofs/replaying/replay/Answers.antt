@@ -2,11 +2,9 @@ use Rattle.std.proofs.Common.{◌+◌, [], length, take, refl, ◌∙◌, arith,
 use Rattle.std.proofs.lemmas.Bool.{eqb-true}
 use Rattle.std.proofs.lemmas.List.{take_rest, length-drop}
 use Rattle.memchr.specs.Find.{Nowhere, Passes, is_byte}
-use Rattle.tq_part.specs.Agrees.{standing_part}
-use Rattle.tq_host.specs.Lines.{IsLine}
-use Rattle.tq_host.specs.Replay.{Enters}
-use Rattle.tq_host.proofs.LineLaws.{line-found, no-feed-at-all}
-use Rattle.tq_host.proofs.ReplayLaws.{replaying-on, stops-here, leads-here, log-once, enters-limit}
+use Rattle.tq_shape.specs.Agrees.{standing_part}
+use Rattle.tq_host.specs.Lines.{IsLine, Enters}
+use Rattle.tq_host.proofs.LineLaws.{line-found, no-feed-at-all, replaying-on, stops-here, leads-here, log-once, enters-limit}
 use Rattle.tq_host.proofs.replaying.replay.Goals as goal
 
 pub loop-place-init : goal.loop-place-init

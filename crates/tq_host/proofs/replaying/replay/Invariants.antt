@@ -1,6 +1,6 @@
 use Rattle.std.proofs.Common.{◌≡◌, [], length}
-use Rattle.tq_part.specs.Agrees.{standing_part}
-use Rattle.tq_host.proofs.ReplayLaws.{IsReplaying}
+use Rattle.tq_shape.specs.Agrees.{standing_part}
+use Rattle.tq_host.proofs.LineLaws.{IsReplaying}
 use Rattle.tq_host.proofs.replaying.replay.Given as goal
 
 -- the lines so far led here, and the rest is left

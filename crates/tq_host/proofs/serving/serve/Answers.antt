@@ -4,8 +4,7 @@ use Rattle.std.proofs.lemmas.List.{length-take-le}
 use Rattle.std.specs.Io.KnownBytes.{Appends, Keeps}
 use Rattle.memchr.specs.Find.{Nowhere, Passes, is_byte}
 use Rattle.tq_host.specs.Lines.{IsLine}
-use Rattle.tq_host.specs.Told.{Told, IsTold}
-use Rattle.tq_host.specs.Kept.{with_told, nothing_left, IsHalfOut}
+use Rattle.tq_host.specs.Told.{Told, IsTold, with_told, nothing_left, IsHalfOut}
 use Rattle.tq_host.proofs.LineLaws.{line-found, no-feed-at-all, take-few}
 use Rattle.tq_host.proofs.ServeLaws.{turning-opens, turn-line, turn-cut, turn-half, turn-last, turn-long, turn-read, turn-fails, turn-ends, turn-same, slice-rest}
 use Rattle.tq_host.specs.declared.fault.HostFault.TheVariants.{Memory}

@@ -1,12 +1,11 @@
 use Rattle.std.proofs.Common.{◌≡◌, refl, subst}
 use Rattle.tq_txn.specs.declared.txn.Txn.{Txn}
 use Rattle.tq_txn.specs.Dialogue.{Follows, ended_by}
-use Rattle.tq_interpreter.specs.TxnAsked.{answer_end, missing_in, serial_text, decision_asked, decision_voting, course_line}
+use Rattle.tq_interpreter.specs.TxnAsked.{answer_end, missing_in, serial_text, decision_asked, decision_voting, course_line, IsClosed}
 use Rattle.tq_interpreter.specs.declared.states.Closed.{Closed}
 use Rattle.tq_interpreter.specs.declared.states.Closed.TheVariants.{Voting}
-use Rattle.tq_interpreter.specs.States.{IsClosed}
 use Rattle.tq_interpreter.specs.Known.{in_state}
-use Rattle.tq_interpreter.proofs.Answered.{answered_as, said_by}
+use Rattle.tq_interpreter.proofs.ShellLines.{answered_as, said_by}
 use Rattle.tq_interpreter.proofs.decisions.decide_txn.Goals.{in-Decide, in-Commit}
 use Rattle.tq_interpreter.proofs.decisions.decide_txn.Goals as goal
 

@@ -1,10 +1,10 @@
 use Rattle.std.proofs.Common.{refl, subst}
 use Rattle.tq_txn.specs.declared.txn.Txn.{Txn}
 use Rattle.tq_txn.specs.Dialogue.{Follows, ended_by}
-use Rattle.tq_txn.specs.Aborts.{abort_line}
+use Rattle.tq_txn.specs.Commits.{abort_line}
 use Rattle.tq_interpreter.specs.TxnAsked.{answer_end, no_servers, aborted_text}
 use Rattle.tq_interpreter.specs.Known.{in_state}
-use Rattle.tq_interpreter.proofs.Answered.{said_by}
+use Rattle.tq_interpreter.proofs.ShellLines.{said_by}
 use Rattle.tq_interpreter.proofs.endings.abort_txn.Goals as goal
 
 pub returns-clause-answered : goal.returns-clause-answered

@@ -5,7 +5,7 @@ use Rattle.tq_txn.specs.declared.fault.LineFault.{LineFault}
 use Rattle.tq_txn.specs.Dialogue.{Follows, desk_line, ended_by}
 use Rattle.tq_txn.proofs.LineLaws.{told_desk, refused_desk}
 use Rattle.tq_interpreter.specs.TxnAsked.{resolve_end}
-use Rattle.tq_interpreter.proofs.Answered.{said_by}
+use Rattle.tq_interpreter.proofs.ShellLines.{said_by}
 use Rattle.tq_interpreter.proofs.endings.resolve.Goals as goal
 
 pub returns-in_ok-say_resolved-in-Ok-clause-answered : goal.returns-in_ok-say_resolved-in-Ok-clause-answered

@@ -1,5 +1,5 @@
 use Rattle.std.proofs.Common.{◌∙◌, ◌++◌, ◌∷◌, [], ap, append_assoc}
-use Rattle.tq_text.specs.Refusals.{desk_refusal_text}
+use Rattle.tq_text.specs.Print.{desk_refusal_text}
 use Rattle.tq_interpreter.proofs.endings.say_resolved.Goals as goal
 
 pub returns-in_ok-push-in-Refused-clause-text : goal.returns-in_ok-push-in-Refused-clause-text

@@ -8,8 +8,8 @@ use Rattle.tq_refresh.specs.declared.job.Job.{Job}
 use Rattle.tq_refresh.specs.Plan.{jobs_from, servers_in}
 use Rattle.tq_refresh.proofs.Walked.{left_of_tree, of_one_tree, walks-passed, walks-passes}
 use Rattle.tq_text.specs.Print.{printed_line}
-use Rattle.tq_interpreter.specs.Operators.{job_text}
-use Rattle.tq_interpreter.proofs.Operating.{counted_fits, leads_from, longer, one_on}
+use Rattle.tq_interpreter.specs.Answer.{job_text}
+use Rattle.tq_interpreter.proofs.Recording.{counted_fits, leads_from, longer, one_on}
 use Rattle.tq_text.proofs.Extended.{extends_more}
 use Rattle.tq_interpreter.proofs.operators.mend_file.Goals as goal
 

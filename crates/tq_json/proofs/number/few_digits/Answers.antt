@@ -1,6 +1,6 @@
 use Rattle.std.proofs.Common.{◌≡◌, ◌<◌, take, take_all, length, subst, ap, ◌∙◌, arith}
 use Rattle.std.specs.Str.Parse.{AllDigits, digits_value}
-use Rattle.tq_json.proofs.Digits.{one_more, next_number, below_18}
+use Rattle.tq_json.proofs.Contents.{one_more, next_number, below_18}
 use Rattle.tq_json.proofs.number.few_digits.Goals as goal
 
 pub overflow_mul-number : goal.overflow_mul-number

@@ -1,6 +1,6 @@
 use Rattle.std.proofs.Common.{length, ap, sym, ◌∙◌, arith}
 use Rattle.std.specs.Str.Parse.{digits_value}
-use Rattle.tq_json.proofs.Finite.{few-down, few-up, no-digits}
+use Rattle.tq_json.proofs.Contents.{few-down, few-up, no-digits}
 use Rattle.tq_json.proofs.number.has_few_places.Goals as goal
 
 pub returns-then-is_exponent_negative : goal.returns-then-is_exponent_negative

@@ -1,4 +1,4 @@
-use Rattle.tq_json.proofs.Finite.{small-finite}
+use Rattle.tq_json.proofs.Contents.{small-finite}
 use Rattle.tq_json.proofs.number.is_finite.Goals as goal
 
 pub returns-then-has_few_places : goal.returns-then-has_few_places

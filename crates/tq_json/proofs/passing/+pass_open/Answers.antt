@@ -1,8 +1,7 @@
 use Rattle.std.proofs.Common.{◌-◌, ◌^◌, ◌<◌, Some, ap, subst, ◌∙◌, arith}
 use Rattle.json.specs.Reads.{token_of}
-use Rattle.tq_json.specs.Next.{next}
-use Rattle.tq_json.specs.Behind.{behind, tokens_behind, Begins}
-use Rattle.tq_json.proofs.Behind.{its_end, its_value, innermost_ends, value_refused, one_more, below_bits, a_bit}
+use Rattle.tq_json.specs.Next.{next, behind, tokens_behind, Begins}
+use Rattle.tq_json.proofs.Nexts.{its_end, its_value, innermost_ends, value_refused, one_more, below_bits, a_bit}
 use Rattle.tq_json.proofs.passing.+pass_open.Goals as goal
 
 pub tokens-preserved-then-branch : goal.tokens-preserved-then-branch

@@ -4,10 +4,8 @@ use Rattle.json.specs.Json.{value}
 use Rattle.json.specs.Reads.{token_of}
 use Rattle.json.proofs.Grammar.{value_is}
 use Rattle.serde_json.specs.Read.{number_of, of_json, converted}
-use Rattle.tq_json.specs.Next.{next}
-use Rattle.tq_json.specs.Behind.{behind}
-use Rattle.tq_json.proofs.Nexts.{next-string, next-boolean, next-null, next-number, next-no_number, some_number, no_number}
-use Rattle.tq_json.proofs.Behind.{array_begins, object_begins}
+use Rattle.tq_json.specs.Next.{next, behind}
+use Rattle.tq_json.proofs.Nexts.{next-string, next-boolean, next-null, next-number, next-no_number, some_number, no_number, array_begins, object_begins}
 use Rattle.tq_json.proofs.passing.opening_kind.Goals as goal
 
 pub returns-in-String-clause-ok : goal.returns-in-String-clause-ok

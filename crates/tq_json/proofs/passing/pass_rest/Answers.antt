@@ -1,6 +1,5 @@
 use Rattle.json.specs.Reads.{token_of}
-use Rattle.tq_json.proofs.Nexts.{some_left}
-use Rattle.tq_json.proofs.Behind.{alone}
+use Rattle.tq_json.proofs.Nexts.{some_left, alone}
 use Rattle.tq_json.proofs.passing.pass_rest.Goals as goal
 
 pub returns-in_default-clause-ok : goal.returns-in_default-clause-ok

@@ -1,4 +1,4 @@
-use Rattle.tq_json.proofs.Behind.{key_taken, bracket_taken, no_key}
+use Rattle.tq_json.proofs.Nexts.{key_taken, bracket_taken, no_key}
 use Rattle.tq_json.proofs.passing.take_end.Goals as goal
 
 pub returns-in_err-next_key-clause-err : goal.returns-in_err-next_key-clause-err

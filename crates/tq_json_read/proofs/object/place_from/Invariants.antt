@@ -1,5 +1,5 @@
 use Rattle.std.proofs.Common.{◌≡◌, ◌-◌, drop, length}
-use Rattle.tq_json_read.specs.Objects.{texts, is_among}
+use Rattle.tq_json_read.specs.Slots.{texts, is_among}
 use Rattle.tq_json_read.proofs.object.place_from.Given as goal
 
 -- the name is not among those that were looked at

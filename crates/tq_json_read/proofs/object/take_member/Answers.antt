@@ -1,5 +1,5 @@
 use Rattle.std.proofs.Common.{ap, ◌∙◌}
-use Rattle.tq_json_read.specs.Objects.{texts, slots_at}
+use Rattle.tq_json_read.specs.Slots.{texts, slots_at}
 use Rattle.tq_json_read.proofs.Places.{all_filled, none_filled}
 use Rattle.tq_json_read.proofs.object.take_member.Goals as goal
 

@@ -3,8 +3,8 @@ use Rattle.json.specs.Json.{read_key}
 use Rattle.json.proofs.Grammar.{read_key-shorter}
 use Rattle.serde_json.specs.Data.{no_members, put}
 use Rattle.serde_json.specs.Find.{get_member}
-use Rattle.tq_json.proofs.Turns.{members_go, members_stop, members_no_key_left, members_end}
-use Rattle.tq_json_read.specs.Objects.{slots_at, texts}
+use Rattle.tq_json.proofs.Nexts.{members_go, members_stop, members_no_key_left, members_end}
+use Rattle.tq_json_read.specs.Slots.{slots_at, texts}
 use Rattle.tq_json_read.proofs.Places.{empty_slots}
 use Rattle.tq_json_read.proofs.Rows.{with_put}
 use Rattle.tq_json_read.proofs.object.take_members.Goals as goal

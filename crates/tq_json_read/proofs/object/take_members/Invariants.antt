@@ -2,8 +2,8 @@ use Rattle.std.proofs.Common.{◌≡◌, ◌≤◌, length}
 use Rattle.serde_json.specs.Data.{Members}
 use Rattle.serde_json.specs.Find.{get_member}
 use Rattle.tq_json.specs.Next.{next_members}
-use Rattle.tq_json_read.specs.Objects.{slots_at, texts}
-use Rattle.tq_json.proofs.Turns.{members_behind}
+use Rattle.tq_json_read.specs.Slots.{slots_at, texts}
+use Rattle.tq_json.proofs.Nexts.{members_behind}
 use Rattle.tq_json_read.proofs.object.take_members.Given as goal
 
 -- the members that were found, and what was read of them

@@ -1,7 +1,7 @@
 use Rattle.std.proofs.Common.{◌≡◌, ◌≤◌, ◌++◌, [], ◌∷◌, length, Some, None, sym, ap, ◌∙◌, arith, rules}
 use Rattle.json.specs.Json.{parse_map, after_end_array}
 use Rattle.serde_json.specs.Data.{Data, no_items, item}
-use Rattle.tq_json.proofs.Turns.{items_go, items_stop, items_end}
+use Rattle.tq_json.proofs.Nexts.{items_go, items_stop, items_end}
 use Rattle.tq_json_read.proofs.Rows.{before, none_before, one_more, goes_first, goes_on, all_read, one_is_none, empty_fits, full_is_none, still_fits}
 use Rattle.tq_json_read.proofs.parts.take_items.Goals as goal
 

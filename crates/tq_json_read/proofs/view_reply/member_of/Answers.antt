@@ -1,4 +1,4 @@
-use Rattle.tq_json_read.proofs.Memberships.{member_from}
+use Rattle.tq_json_read.proofs.Places.{member_from}
 use Rattle.tq_json_read.proofs.view_reply.member_of.Goals as goal
 
 pub returns : goal.returns

@@ -1,5 +1,5 @@
 use Rattle.std.proofs.Common.{sym, ◌∙◌}
-use Rattle.tq_locks.proofs.Indexed.{listed_here, OnTrue-to}
+use Rattle.tq_locks.proofs.Placed.{listed_here, OnTrue-to}
 use Rattle.tq_locks.proofs.index.is_at.Goals as goal
 
 pub returns-in-Some : goal.returns-in-Some

@@ -1,5 +1,5 @@
 use Rattle.std.proofs.Common.{◌≡◌, ℕ, drop}
-use Rattle.tq_locks.specs.Loose.{entry_after_steady}
+use Rattle.tq_locks.specs.Locks.{entry_after_steady}
 use Rattle.tq_locks.proofs.keyed.stabilise_each.Given as goal
 
 -- what is left to do comes to the same

@@ -1,6 +1,6 @@
 use Rattle.std.proofs.Common.{◌≡◌, ◌-◌, ◌<◌, suc, length, ap, sym, ◌∙◌, arith}
 use Rattle.std.specs.List.{insert, swap}
-use Rattle.tq_locks.proofs.Sinking.{longer, swapped}
+use Rattle.tq_locks.proofs.Rings.{longer, swapped}
 use Rattle.tq_locks.proofs.keys.sink.Goals as goal
 
 pub loop-at-preserved : goal.loop-at-preserved

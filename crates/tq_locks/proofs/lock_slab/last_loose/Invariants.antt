@@ -1,5 +1,5 @@
 use Rattle.std.proofs.Common.{length}
-use Rattle.tq_locks.specs.Loose.{ListsLoose}
+use Rattle.tq_locks.specs.Locks.{ListsLoose}
 use Rattle.tq_locks.proofs.lock_slab.last_loose.Given as goal
 
 abbrev pub invariant-loop-key : goal.invariant-loop-key

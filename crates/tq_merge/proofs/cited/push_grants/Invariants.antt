@@ -1,6 +1,6 @@
 use Rattle.std.proofs.Common.{◌≡◌, ◌++◌, map, take}
-use Rattle.tq_merge.specs.Cited as spec
-use Rattle.tq_world.specs.Founded.{cited_grant}
+use Rattle.tq_merge.specs.Placing as spec
+use Rattle.tq_core.specs.Founded.{cited_grant}
 use Rattle.tq_merge.proofs.cited.push_grants.Given as goal
 
 -- those so far are entered

@@ -1,8 +1,8 @@
 use Rattle.std.proofs.Common.{List, ap, ◌++◌, map, ◌∙◌}
-use Rattle.tq_world.specs.Founded.{cited_grant}
+use Rattle.tq_core.specs.Founded.{cited_grant}
 use Rattle.tq_evidence.specs.declared.grant.Grant.{Grant}
-use Rattle.tq_merge.specs.Cited as spec
-use Rattle.tq_merge.proofs.CitedOps.{ops_next}
+use Rattle.tq_merge.specs.Placing as spec
+use Rattle.tq_merge.proofs.Founding.{ops_next}
 use Rattle.tq_merge.proofs.cited.push_ops.Goals as goal
 
 pub loop-op-preserved : goal.loop-op-preserved

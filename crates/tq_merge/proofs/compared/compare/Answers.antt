@@ -2,11 +2,9 @@ use Rattle.std.proofs.Common.{◌≡◌, ◌++◌, ◌∙◌, inl, inr, ℕ, Lis
 use Rattle.std.specs.List.{All}
 use Rattle.std.proofs.lemmas.List.{take_all}
 use Rattle.tq_txn.specs.declared.asker.Exchange.{Exchange}
-use Rattle.tq_merge.specs.declared.name.EntryName.{EntryName}
-use Rattle.tq_merge.specs.EntryNames.{IsWithin, IsFallen, Rise}
-use Rattle.tq_merge.specs.Told.{Stands, names_of, all_names, counts_of}
-use Rattle.tq_merge.specs.Kept.{IsStray}
-use Rattle.tq_merge.proofs.Telling.{has_item, all_next, next_all, told_within, all_within}
+use Rattle.tq_merge.specs.declared.claimed.EntryName.{EntryName}
+use Rattle.tq_merge.specs.Told.{IsWithin, IsFallen, Rise, IsStray, Stands, names_of, all_names, entry_counts}
+use Rattle.tq_merge.proofs.Legality.{has_item, all_next, next_all, told_within, all_within}
 use Rattle.tq_merge.proofs.compared.compare.Goals as goal
 
 pub returns-in-Stray : goal.returns-in-Stray
@@ -24,7 +22,7 @@ first_fallen-requires c =
     let names = rw c.in-Stand.is at c.in_ok-names.ensures in
     let good = told_within c.args.journals.now told (subst (λ (t : List Exchange). All (Stands c.args.journals.now) t) c.as_slice.ensures names.1) in
     let names_are : c.as_slice-in-loop-told-2.result.now ≡ names_of told = c.as_slice-in-loop-told-2.ensures.value ∙ names.0 ∙ ap names_of c.as_slice.ensures in
-    let counts_are : c.as_slice-in-loop-told.result.now ≡ counts_of c.args.journals.now = c.as_slice-in-loop-told.ensures.value ∙ c.in_ok-counts.ensures.value in
+    let counts_are : c.as_slice-in-loop-told.result.now ≡ entry_counts c.args.journals.now = c.as_slice-in-loop-told.ensures.value ∙ c.in_ok-counts.ensures.value in
     subst (λ (l : List EntryName). All (IsWithin c.as_slice-in-loop-told.result.now) l) (sym names_are)
     (subst (λ (k : List ℕ). All (IsWithin k) (names_of told)) (sym counts_are) good)
 
@@ -66,6 +64,6 @@ claim-requires-clause-within c =
     let all : take c.loop-told.told-index callers ≡ callers = take_all c.loop-told.told-index callers (omega (arith, c.loop-told-test.false)) in
     let good = all_within journals callers (subst (λ (l : List (List Exchange)). All (λ (t : List Exchange). All (Stands journals) t) l) all c.loop-told.invariant.stand) in
     let names_are : c.as_slice-3.result.now ≡ all_names callers = c.as_slice-3.ensures.value ∙ c.loop-told.invariant.names ∙ ap all_names all in
-    let counts_are : c.as_slice-2.result.now ≡ counts_of journals = c.as_slice-2.ensures.value ∙ c.in_ok-counts.ensures.value in
+    let counts_are : c.as_slice-2.result.now ≡ entry_counts journals = c.as_slice-2.ensures.value ∙ c.in_ok-counts.ensures.value in
     subst (λ (l : List EntryName). All (IsWithin c.as_slice-2.result.now) l) (sym names_are)
     (subst (λ (k : List ℕ). All (IsWithin k) (all_names callers)) (sym counts_are) good)

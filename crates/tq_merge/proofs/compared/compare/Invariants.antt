@@ -1,7 +1,6 @@
 use Rattle.std.proofs.Common.{◌≡◌, take}
 use Rattle.std.specs.List.{All}
-use Rattle.tq_merge.specs.EntryNames.{Rise}
-use Rattle.tq_merge.specs.Told.{Stands, names_of, all_names}
+use Rattle.tq_merge.specs.Told.{Rise, Stands, names_of, all_names}
 use Rattle.tq_merge.proofs.compared.compare.Given as goal
 
 abbrev pub invariant-loop-told : goal.invariant-loop-told

@@ -1,5 +1,5 @@
 use Rattle.std.proofs.Common.{refl, ◌∙◌}
-use Rattle.tq_merge.proofs.Wholes.{runs_given, reads_given, stuck_given}
+use Rattle.tq_merge.proofs.Greedy.{runs_given, reads_given, stuck_given}
 use Rattle.tq_merge.proofs.explaining.explain_legal.Goals as goal
 
 pub returns-then-is_whole-clause-run : goal.returns-then-is_whole-clause-run

@@ -2,11 +2,11 @@ use Rattle.std.proofs.Common.{◌≡◌, ◌≤◌, ◌∷◌, ◌∙◌, ℕ, L
 use Rattle.std.specs.List.{All}
 use Rattle.std.proofs.lemmas.List.{take_all}
 use Rattle.tq_shape.specs.Limits.{LimitsView}
-use Rattle.tq_merge.specs.Told.{counts_of}
-use Rattle.tq_merge.proofs.Telling.{each_length, short_counts}
+use Rattle.tq_merge.specs.Told.{entry_counts}
+use Rattle.tq_merge.proofs.Legality.{each_length, short_counts}
 use Rattle.tq_merge.proofs.lengths.counts.Goals as goal
 
-value : (c : goal.After-loop-entries) → c.loop-entries.counts.items ≡ counts_of c.args.journals.now
+value : (c : goal.After-loop-entries) → c.loop-entries.counts.items ≡ entry_counts c.args.journals.now
 value c =
     let journals = c.args.journals.now in
     let servers = c.servers-servers.result.now in

@@ -3,7 +3,7 @@ use Rattle.std.proofs.lemmas.Bool.Decides.{nat_tests}
 use Rattle.tq_store.specs.declared.write.Write.{Write}
 use Rattle.tq_locks.specs.declared.mode.Lock.{Lock}
 use Rattle.tq_locks.specs.Locks.{LockKey}
-use Rattle.tq_node.specs.Walks.{all_held}
+use Rattle.tq_node.specs.Telling.{all_held}
 use Rattle.tq_node.proofs.votes.all_held.Goals as goal
 
 at_end : (left : List Write) → (length left == 0) ≡ all_held [] left

@@ -1,5 +1,5 @@
 use Rattle.std.proofs.Common.{◌≡◌}
-use Rattle.tq_node.specs.Walks.{all_held}
+use Rattle.tq_node.specs.Telling.{all_held}
 use Rattle.tq_node.proofs.votes.all_held.Given as goal
 
 abbrev pub invariant-loop-entry : goal.invariant-loop-entry

@@ -3,8 +3,8 @@ use Rattle.tq_asks.specs.declared.ask.NodeAsk.{NodeAsk}
 use Rattle.tq_asks.specs.declared.ask.NodeAsk.TheVariants.{Work}
 use Rattle.tq_asks.specs.declared.ask.WorkAsk.TheVariants.{Peek}
 use Rattle.tq_txn_states.specs.declared.told.NodeTold.{NodeTold}
-use Rattle.tq_refresh.specs.Mending.{IsAnswered}
-use Rattle.tq_refresh.proofs.Asked.{mended}
+use Rattle.tq_refresh.specs.Plan.{IsAnswered}
+use Rattle.tq_refresh.proofs.Walked.{mended}
 use Rattle.tq_refresh.proofs.mending.mend.Goals as goal
 
 pub returns-clause-asked : goal.returns-clause-asked

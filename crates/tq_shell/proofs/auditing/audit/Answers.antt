@@ -1,9 +1,7 @@
 use Rattle.std.proofs.Common.{◌∙◌, ℕ, List, [], refl, subst}
 use Rattle.tq_devices.proofs.Written.{Appends-none}
 use Rattle.tq_devices.specs.declared.fault.RunFault.TheVariants.{Memory}
-use Rattle.tq_shell.specs.Audit.{IsAudited}
-use Rattle.tq_shell.specs.Texts.{status_of}
-use Rattle.tq_shell.specs.Verdicts.{IsVerdict}
+use Rattle.tq_shell.specs.Audit.{IsAudited, status_of, IsVerdict}
 use Rattle.tq_shell.proofs.ReportLaws.{by_fault, ends_write}
 use Rattle.tq_shell.proofs.auditing.audit.Goals as goal
 

@@ -1,4 +1,4 @@
-use Rattle.tq_json_write.proofs.Gathered.{written-out}
+use Rattle.tq_board.proofs.Gathered.{written-out}
 use Rattle.tq_shell.proofs.line.write_line.Goals as goal
 
 pub returns : goal.returns

@@ -1,5 +1,5 @@
 use Rattle.std.proofs.Common.{rules}
-use Rattle.tq_shell.proofs.RehearsalLaws.{unread}
+use Rattle.tq_shell.proofs.ReportLaws.{unread}
 use Rattle.tq_shell.proofs.opened.open_service.Goals as goal
 
 pub returns-in_default : goal.returns-in_default

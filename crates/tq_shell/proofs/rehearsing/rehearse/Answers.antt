@@ -2,9 +2,8 @@ use Rattle.std.proofs.Common.{◌∙◌, ℕ, List, [], refl, subst, sym, inl}
 use Rattle.tq_devices.proofs.Written.{Appends-none}
 use Rattle.tq_devices.specs.declared.fault.RunFault.TheVariants.{Memory}
 use Rattle.tq_shell.specs.Rehearsal.{IsRefusedFile}
-use Rattle.tq_shell.specs.Texts.{status_of}
-use Rattle.tq_shell.proofs.RehearsalLaws.{not_read, refused_file, turned_away}
-use Rattle.tq_shell.proofs.ReportLaws.{ends_write}
+use Rattle.tq_shell.specs.Audit.{status_of}
+use Rattle.tq_shell.proofs.ReportLaws.{not_read, refused_file, turned_away, ends_write}
 use Rattle.tq_shell.proofs.rehearsing.rehearse.Goals as goal
 
 pub returns-in_err-bytes-clause-text : goal.returns-in_err-bytes-clause-text

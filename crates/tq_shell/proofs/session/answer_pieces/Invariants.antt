@@ -1,5 +1,5 @@
 use Rattle.std.proofs.Common.{◌≡◌, [], length}
-use Rattle.tq_shell.specs.SessionRun.{IsAnswering, IsGoing}
+use Rattle.tq_shell.specs.Session.{IsAnswering, IsGoing}
 use Rattle.tq_shell.proofs.session.answer_pieces.Given as goal
 
 abbrev pub invariant-loop-count : goal.invariant-loop-count

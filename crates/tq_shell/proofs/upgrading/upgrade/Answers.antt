@@ -1,7 +1,6 @@
 use Rattle.std.proofs.Common.{◌∙◌, ℕ, List, subst}
-use Rattle.tq_shell.specs.Upgrade.{IsFound, IsUpgraded, found_line, found_status}
-use Rattle.tq_shell.proofs.UpgradeLaws.{upgraded}
-use Rattle.tq_shell.proofs.ReportLaws.{by_fault, ends_write_out}
+use Rattle.tq_shell.specs.Audit.{IsFound, IsUpgraded, found_line, found_status}
+use Rattle.tq_shell.proofs.ReportLaws.{upgraded, by_fault, ends_write_out}
 use Rattle.tq_shell.proofs.upgrading.upgrade.Goals as goal
 
 pub returns-in_err-write_found-clause-text : goal.returns-in_err-write_found-clause-text

@@ -1,4 +1,4 @@
-use Rattle.tq_syntax.proofs.NumberLaws.{number_of-decimal, decimal-number_of}
+use Rattle.tq_syntax.proofs.WordLaws.{number_of-decimal, decimal-number_of}
 use Rattle.tq_syntax.proofs.word.numbers_are_read_again.Goals as goal
 
 pub returns : goal.returns

@@ -1,4 +1,4 @@
-use Rattle.tq_txn.proofs.AbortLaws.{aborted}
+use Rattle.tq_txn.proofs.EndLaws.{aborted}
 use Rattle.tq_txn.proofs.aborts.end_aborted.Goals as goal
 
 pub returns-clause-asks : goal.returns-clause-asks

@@ -3,9 +3,8 @@ use Rattle.tq_coterie.specs.Coterie.{numbers_of}
 use Rattle.tq_txn.specs.Commits.{commit_end, commit_line, prepares_line}
 use Rattle.tq_txn.specs.Dialogue.{ended_by}
 use Rattle.tq_txn.specs.declared.txn.Txn.TheVariants as states
-use Rattle.tq_txn.proofs.CommitLaws.{commit_off, commit_on, decide_off, decide_on}
+use Rattle.tq_txn.proofs.CommitLaws.{commit_off, commit_on, decide_off, decide_on, ending_behind, ending_none, ending_voted}
 use Rattle.tq_txn.proofs.Deskless.{deskless_cites, deskless_commit_end, deskless_prepares, deskless_untold}
-use Rattle.tq_txn.proofs.EndingLaws.{ending_behind, ending_none, ending_voted}
 use Rattle.tq_txn.proofs.KnownLaws.{cites_on}
 use Rattle.tq_txn.proofs.LineLaws.{follows_memory}
 use Rattle.tq_txn.proofs.commits.commit.Goals as goal

@@ -1,10 +1,8 @@
 use Rattle.std.proofs.Common.{◌∙◌, Ok, Err, rules, sym, ap, subst}
-use Rattle.tq_txn_states.specs.Cited.{VotesOnly}
-use Rattle.tq_txn_states.specs.Voting.{VotingView}
+use Rattle.tq_txn_states.specs.Voting.{VotesOnly, VotingView}
 use Rattle.tq_txn.specs.declared.txn.Txn.TheVariants as states
 use Rattle.tq_txn.specs.Told.{IsEnding, answers_in}
-use Rattle.tq_txn.proofs.CommitLaws.{decide_ready, ready_on}
-use Rattle.tq_txn.proofs.EndingLaws.{ending_answered, ending_none, ending_refused, levels_still, untold_none}
+use Rattle.tq_txn.proofs.CommitLaws.{decide_ready, ready_on, ending_answered, ending_none, ending_refused, levels_still, untold_none}
 use Rattle.tq_txn.proofs.KnownLaws.{cites_ask}
 use Rattle.tq_txn.proofs.LineLaws.{told_desk}
 use Rattle.tq_txn.proofs.commits.decide.Goals as goal

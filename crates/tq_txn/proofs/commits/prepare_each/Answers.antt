@@ -10,7 +10,7 @@ use Rattle.tq_txn.specs.Commits.{prepares_line}
 use Rattle.tq_txn_states.specs.Voting.{VotingView}
 use Rattle.tq_txn.specs.declared.fault.LineFault.{LineFault}
 use Rattle.tq_txn.proofs.CommitLaws.{prepares_on, prepares_off}
-use Rattle.tq_txn.proofs.KeptVotes.{voted_on_same, voted_on_on}
+use Rattle.tq_txn.proofs.EndLaws.{voted_on_same, voted_on_on}
 use Rattle.tq_txn.proofs.LineLaws.{follows_end, left_from}
 use Rattle.tq_txn.proofs.commits.prepare_each.Goals as goal
 

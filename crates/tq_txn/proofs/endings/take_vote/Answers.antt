@@ -1,6 +1,6 @@
 use Rattle.std.proofs.Common.{◌∙◌, refl, sym}
 use Rattle.tq_txn.proofs.KnownLaws.{knows_voted}
-use Rattle.tq_txn.proofs.KeptVotes.{voted_on_same, voted_on_after}
+use Rattle.tq_txn.proofs.EndLaws.{voted_on_same, voted_on_after}
 use Rattle.tq_txn.proofs.LineLaws.{vote_refused}
 use Rattle.tq_txn.proofs.endings.take_vote.Goals as goal
 

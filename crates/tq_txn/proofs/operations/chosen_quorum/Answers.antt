@@ -1,6 +1,6 @@
 use Rattle.std.proofs.Common.{◌∙◌, sym, refl}
 use Rattle.std.proofs.lemmas.Bool.{eqb-true}
-use Rattle.tq_txn_states.proofs.Tested.{same_tree}
+use Rattle.tq_txn_states.proofs.GoodGrants.{same_tree}
 use Rattle.tq_txn.proofs.operations.chosen_quorum.Goals as goal
 
 pub returns-then-not-are_of-clause-value : goal.returns-then-not-are_of-clause-value

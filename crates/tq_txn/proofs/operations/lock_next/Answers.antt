@@ -1,7 +1,7 @@
 use Rattle.std.proofs.Common.{◌≡◌, ◌∙◌, ◌++◌, ℕ, [], ◌∷◌, Some, Result, Ok, Err, sym, ap, subst, rules}
 use Rattle.std.specs.List.{Contains}
 use Rattle.tq_asks.specs.declared.ask.NodeAsk.{NodeAsk}
-use Rattle.tq_txn_states.specs.Cited.{grant_told}
+use Rattle.tq_txn_states.specs.Voting.{grant_told}
 use Rattle.tq_txn_states.specs.Open.{OpenView, touched_by}
 use Rattle.tq_txn_states.specs.declared.told.NodeTold.{NodeTold}
 use Rattle.tq_txn.specs.declared.fault.LineFault.{LineFault}

@@ -1,7 +1,7 @@
 use Rattle.std.proofs.Common.{◌∙◌, ap}
 use Rattle.tq_coterie.specs.Coterie.{is_quorum}
 use Rattle.tq_evidence.specs.Evidence.{granters}
-use Rattle.tq_txn_states.proofs.Tested.{rise_too}
+use Rattle.tq_txn_states.proofs.GoodGrants.{rise_too}
 use Rattle.tq_txn_states.proofs.open.is_member.Goals as goal
 
 pub returns : goal.returns

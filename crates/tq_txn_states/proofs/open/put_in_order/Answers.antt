@@ -3,7 +3,7 @@ use Rattle.std.specs.List.{insert}
 use Rattle.std.specs.Ordering.{is_lt}
 use Rattle.tq_store.specs.Copies.{name_cmp}
 use Rattle.tq_evidence.specs.declared.op.Op.{Op}
-use Rattle.tq_txn_states.specs.Places.{place_before}
+use Rattle.tq_txn_states.specs.Open.{place_before}
 use Rattle.tq_txn_states.proofs.Puts.{insert_before}
 use Rattle.tq_txn_states.proofs.open.put_in_order.Goals as goal
 

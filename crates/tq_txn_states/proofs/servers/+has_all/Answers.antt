@@ -1,5 +1,5 @@
 use Rattle.tq_evidence.specs.Evidence.{granters}
-use Rattle.tq_txn_states.proofs.NumberSets.{all_after}
+use Rattle.tq_txn_states.proofs.Searched.{all_after}
 use Rattle.tq_txn_states.proofs.servers.+has_all.Goals as goal
 
 pub returns-else-number-grant : goal.returns-else-number-grant

@@ -1,7 +1,7 @@
 use Rattle.std.proofs.Common.{◌∙◌, sym, ap}
 use Rattle.std.specs.Option.{option_copied}
 use Rattle.tq_shape.specs.Tree.{Server}
-use Rattle.tq_txn_states.proofs.NumberSets.{below_last}
+use Rattle.tq_txn_states.proofs.Searched.{below_last}
 use Rattle.tq_txn_states.proofs.servers.is_above.Goals as goal
 
 pub returns-in-Some : goal.returns-in-Some

@@ -4,8 +4,7 @@ use Rattle.std.proofs.lemmas.Bool.{false≢true}
 use Rattle.std.proofs.lemmas.Option.{slice_get_past}
 use Rattle.std.proofs.lemmas.List.Sorted.{IsPartitionPoint-from_clause}
 use Rattle.tq_shape.specs.Tree.{Server}
-use Rattle.tq_txn_states.proofs.NumberSets.{has-map, none_below}
-use Rattle.tq_txn_states.proofs.Searched.{found_at, parted, stands_there}
+use Rattle.tq_txn_states.proofs.Searched.{has-map, none_below, found_at, parted, stands_there}
 use Rattle.tq_txn_states.proofs.servers.place_of.Goals as goal
 
 abbrev number : Server → ℕ

@@ -4,7 +4,7 @@ use Rattle.std.proofs.lemmas.Option.{slice_get_read}
 use Rattle.tq_evidence.specs.declared.grant.Grant.{Grant}
 use Rattle.tq_evidence.specs.Evidence.{granters, rises}
 use Rattle.tq_txn_states.specs.Voting.{covers_grant}
-use Rattle.tq_txn_states.proofs.OneGrant.{granter_is, none_to_cover, one_covers}
+use Rattle.tq_txn_states.proofs.Searched.{granter_is, none_to_cover, one_covers}
 use Rattle.tq_txn_states.proofs.votes.covers_op.Goals as goal
 
 pub returns-then-not-is_granter_at : goal.returns-then-not-is_granter_at

@@ -1,8 +1,7 @@
 use Rattle.std.proofs.Common.{◌∙◌, nat_lt, sym, rules}
 use Rattle.std.proofs.lemmas.List.Sorted.{IsPartitionPoint-from_clause}
 use Rattle.tq_evidence.specs.declared.grant.Grant.{Grant}
-use Rattle.tq_txn_states.proofs.OneGrant.{granter_at}
-use Rattle.tq_txn_states.proofs.Searched.{parted, stands_there}
+use Rattle.tq_txn_states.proofs.Searched.{granter_at, parted, stands_there}
 use Rattle.tq_txn_states.proofs.votes.place_of_grant.Goals as goal
 
 pub returns-then-is_granter_at : goal.returns-then-is_granter_at

@@ -2,7 +2,7 @@ use Rattle.std.proofs.Math.Path.{transport}
 use Rattle.std.proofs.Common.{◌++◌, ◌∙◌, ◌∷◌, [], Ok, ap, sym, subst}
 use Rattle.tq_txn.specs.declared.asker.Exchange.TheVariants as exchanges
 use Rattle.tq_cluster.specs.Told.{AreOfParts, CallerView, IsToldByDesk}
-use Rattle.tq_cluster.proofs.OfParts.{desk_told}
+use Rattle.tq_cluster.proofs.Callers.{desk_told}
 use Rattle.tq_cluster.proofs.cluster.Cluster.ask_desk.Goals as goal
 
 pub returns-clause-exchanges : goal.returns-clause-exchanges

@@ -4,10 +4,10 @@ use Rattle.tq_shape.specs.Tree.{IsServer}
 use Rattle.tq_shape.specs.declared.part.Part.TheVariants as parts
 use Rattle.tq_cluster.specs.Told.{AreOfParts, CallerView, IsToldByServer}
 use Rattle.std.proofs.lemmas.List.{length-set}
-use Rattle.tq_cluster.proofs.OfParts.{server_told}
+use Rattle.tq_cluster.proofs.Callers.{server_told}
 use Rattle.tq_txn.specs.declared.asker.Exchange.TheVariants as exchanges
 use Rattle.tq_cluster.specs.Cluster.{ClusterView}
-use Rattle.tq_cluster.proofs.Names.{named_by}
+use Rattle.tq_cluster.proofs.Closing.{named_by}
 use Rattle.tq_cluster.proofs.Seen.{SawOne, asked_none, asked_others, asked_seen, on_err, seeing, server_saw}
 use Rattle.tq_cluster.proofs.cluster.Cluster.ask_node.Given.{Over}
 use Rattle.tq_cluster.proofs.cluster.Cluster.ask_node.Goals as goal

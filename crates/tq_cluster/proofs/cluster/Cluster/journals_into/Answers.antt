@@ -1,5 +1,5 @@
 use Rattle.std.proofs.Common.{◌≡◌, ◌+◌, ◌^◌, ◌≤◌, length, arith}
-use Rattle.tq_cluster.proofs.LegalParts.{are_journals}
+use Rattle.tq_cluster.proofs.Closing.{are_journals}
 use Rattle.tq_cluster.proofs.cluster.Cluster.journals_into.Goals as goal
 
 pub new-requires : goal.new-requires

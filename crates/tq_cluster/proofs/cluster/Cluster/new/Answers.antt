@@ -1,4 +1,4 @@
-use Rattle.tq_cluster.proofs.Names.{one_server_more}
+use Rattle.tq_cluster.proofs.Closing.{one_server_more}
 use Rattle.tq_cluster.proofs.cluster.Cluster.new.Goals as goal
 
 pub loop-place-preserved : goal.loop-place-preserved

@@ -1,8 +1,8 @@
 use Rattle.std.proofs.Common.{◌∙◌, ◌-◌, ◌++◌, [], ◌∷◌, List, ap, refl}
 use Rattle.tq_shape.specs.Journal.{entry}
 use Rattle.tq_node.specs.NodeJournal.{NodeEntry}
-use Rattle.tq_world.specs.declared.answer.Reply.TheVariants as replies
-use Rattle.tq_world.specs.declared.answer.Step.TheVariants as steps
+use Rattle.tq_core.specs.declared.answer.Reply.TheVariants as replies
+use Rattle.tq_core.specs.declared.answer.Step.TheVariants as steps
 use Rattle.tq_core.proofs.Standing.{memory_told, node_asked, node_free, node_refused, node_stays, on_err}
 use Rattle.tq_core.proofs.service.Service.ask_node.Goals as goal
 

@@ -4,9 +4,9 @@ use Rattle.tq_shape.specs.Journal.{entry}
 use Rattle.tq_shape.specs.declared.part.Part.TheVariants.{View}
 use Rattle.tq_tables.specs.Journals.{JournalsView, ViewEntry}
 use Rattle.tq_tables.specs.Reserved.{unready}
-use Rattle.tq_world.specs.declared.answer.Reply.TheVariants as replies
-use Rattle.tq_world.specs.declared.answer.Step.TheVariants as steps
-use Rattle.tq_world.specs.Steps.{refuse_entry}
+use Rattle.tq_core.specs.declared.answer.Reply.TheVariants as replies
+use Rattle.tq_core.specs.declared.answer.Step.TheVariants as steps
+use Rattle.tq_core.specs.Steps.{refuse_entry}
 use Rattle.tq_core.proofs.Standing.{not-refused, told_offers, view_asked}
 use Rattle.tq_core.proofs.service.Service.ask_view.Goals as goal
 

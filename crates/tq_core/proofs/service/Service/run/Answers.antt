@@ -1,4 +1,4 @@
-use Rattle.tq_world.proofs.Legal.{all_offered}
+use Rattle.tq_core.proofs.Legal.{all_offered}
 use Rattle.tq_core.proofs.service.Service.run.Goals as goal
 
 pub returns-clause-offered : goal.returns-clause-offered

@@ -1,4 +1,4 @@
-use Rattle.tq_world.proofs.ReadsOfRun.{reads_of_run, seen_run}
+use Rattle.tq_core.proofs.Committed.{reads_of_run, seen_run}
 use Rattle.tq_core.proofs.service.Service.show_run.Goals as goal
 
 pub returns : goal.returns

@@ -1,5 +1,5 @@
 use Rattle.std.proofs.Common.{◌≡◌, vec_len, length}
-use Rattle.tq_world.specs.Steps as spec
+use Rattle.tq_core.specs.Steps as spec
 use Rattle.tq_core.proofs.service.Service.take.Given as goal
 
 -- the steps so far were told what they are to be told, and made the world as it is; there is room for the results of all

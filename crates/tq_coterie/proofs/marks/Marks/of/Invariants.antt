@@ -1,5 +1,5 @@
 use Rattle.std.proofs.Common.{take}
-use Rattle.tq_coterie.specs.Marks.{AreMarksOf}
+use Rattle.tq_coterie.specs.Parts.{AreMarksOf}
 use Rattle.tq_coterie.proofs.marks.Marks.of.Given as goal
 
 abbrev pub invariant-loop-server : goal.invariant-loop-server

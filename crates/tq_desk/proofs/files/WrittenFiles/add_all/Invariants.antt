@@ -1,5 +1,5 @@
 use Rattle.std.proofs.Common.{◌≡◌, ◌≤◌, ◌+◌, drop, length}
-use Rattle.tq_desk.specs.DeskChanges.{with_names}
+use Rattle.tq_desk.specs.DeskPlans.{with_names}
 use Rattle.tq_desk.proofs.files.WrittenFiles.add_all.Given as goal
 
 abbrev pub invariant-loop-name : goal.invariant-loop-name

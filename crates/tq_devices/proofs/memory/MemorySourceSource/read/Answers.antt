@@ -1,5 +1,5 @@
 use Rattle.std.proofs.Common.{◌-◌, length, take, drop, arith}
-use Rattle.tq_devices.proofs.Pieces.{given_more, left_less, rest_is}
+use Rattle.tq_devices.proofs.Written.{given_more, left_less, rest_is}
 use Rattle.tq_devices.proofs.memory.MemorySourceSource.read.Goals as goal
 
 pub returns-clause-bytes : goal.returns-clause-bytes

@@ -1,6 +1,5 @@
 use Rattle.std.proofs.Common.{◌≡◌, ◌∙◌, ap, sym, true, ◌&&◌}
-use Rattle.tq_evidence.specs.Evidence.{are_grants_covered, are_of_servers, votes_rise}
-use Rattle.tq_evidence.specs.InOrder.{are_walked}
+use Rattle.tq_evidence.specs.Evidence.{are_grants_covered, are_of_servers, votes_rise, are_walked}
 use Rattle.tq_evidence.proofs.Merging.{are_walked-covered}
 use Rattle.tq_evidence.proofs.evidence.coverage.are_covered.Goals as goal
 

@@ -1,6 +1,6 @@
 use Rattle.std.proofs.lemmas.Str.{IsUtf8-string_bytes}
 use Rattle.tq_shape.specs.Journal.{entry}
-use Rattle.tq_json_write.proofs.LinesBack.{desk-line-back}
+use Rattle.tq_board.proofs.Laws.{desk-line-back}
 use Rattle.tq_host.proofs.parts.DeskWire.line_of_entry.Goals as goal
 
 pub returns-clause-back : goal.returns-clause-back

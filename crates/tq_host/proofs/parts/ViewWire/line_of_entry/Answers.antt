@@ -1,8 +1,8 @@
 use Rattle.std.proofs.Common.{sym, subst}
-use Rattle.tq_live.specs.ViewTree.{IsOfTree, reply_of_tree}
+use Rattle.tq_live.specs.ViewLaws.{IsOfTree, reply_of_tree}
 use Rattle.std.proofs.lemmas.Str.{IsUtf8-string_bytes}
 use Rattle.tq_shape.specs.Journal.{entry}
-use Rattle.tq_json_write.proofs.LinesBack.{view-line-back}
+use Rattle.tq_board.proofs.Laws.{view-line-back}
 use Rattle.tq_host.proofs.parts.ViewWire.line_of_entry.Goals as goal
 
 pub returns-clause-back : goal.returns-clause-back

@@ -1,4 +1,4 @@
-use Rattle.tq_intents.proofs.NewestCopies.{KeepsNewest-all}
+use Rattle.tq_intents.proofs.CopiesPush.{KeepsNewest-all}
 use Rattle.tq_intents.proofs.intents.Intents.copies.Goals as goal
 
 pub returns-clause-newest : goal.returns-clause-newest

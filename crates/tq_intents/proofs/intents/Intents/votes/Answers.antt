@@ -3,7 +3,7 @@ use Rattle.std.specs.Cmp.{nat_cmp_total}
 use Rattle.std.specs.FinMap as fin
 use Rattle.std.specs.FinMap.{nat_cmp-IsAntisymmetric, same_map}
 use Rattle.std.specs.Ordering.{nat_cmp}
-use Rattle.tq_locks.proofs.Ordered.{entries-from_ordered, get_entry}
+use Rattle.tq_locks.proofs.Found.{entries-from_ordered, get_entry}
 use Rattle.tq_intents.specs.Kept.{kept_votes}
 use Rattle.tq_intents.proofs.intents.Intents.votes.Goals as goal
 

@@ -1,7 +1,7 @@
 use Rattle.std.proofs.Common.{◌≡◌, ◌<◌, ℕ, List, length, get_or, rules, ap, sym, subst, ◌∙◌}
 use Rattle.tq_intents.specs.Sharing.{lock_at}
 use Rattle.tq_intents.specs.declared.record.KeptLock.{KeptLock}
-use Rattle.tq_intents.proofs.Sharing.{get_or-kept_each, within-versions}
+use Rattle.tq_intents.proofs.KeptLocks.{get_or-kept_each, within-versions}
 use Rattle.tq_intents.proofs.vote_locks.VoteLocks.get.Goals as goal
 
 pub version_at-version-requires : goal.version_at-version-requires

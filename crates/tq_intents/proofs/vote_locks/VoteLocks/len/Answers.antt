@@ -1,5 +1,5 @@
 use Rattle.std.proofs.Common.{length, ap, sym, ◌∙◌}
-use Rattle.tq_intents.proofs.Sharing.{length-kept_each}
+use Rattle.tq_intents.proofs.KeptLocks.{length-kept_each}
 use Rattle.tq_intents.proofs.vote_locks.VoteLocks.len.Goals as goal
 
 pub returns : goal.returns

@@ -1,6 +1,6 @@
 use Rattle.std.proofs.Common.{◌≡◌, ◌∙◌, ◌<◌, ◌+◌, ◌++◌, length, ap, sym, subst}
 use Rattle.std.proofs.lemmas.List.Elements.{All-set}
-use Rattle.tq_txn.specs.States.{levels_of}
+use Rattle.tq_txn.specs.Told.{levels_of}
 use Rattle.tq_syntax.specs.declared.line.Line.TheVariants as lines
 use Rattle.tq_interpreter.specs.declared.txn_slot.TxnSlot.{TxnSlot}
 use Rattle.tq_interpreter.specs.Answer.{World, answer}

@@ -4,9 +4,8 @@ use Rattle.tq_desk.specs.declared.ask.DeskAsk.TheVariants.{Begin}
 use Rattle.tq_syntax.specs.declared.line.Line.TheVariants as lines
 use Rattle.tq_txn.specs.Dialogue.{line_result, desk_line}
 use Rattle.tq_txn.proofs.LineLaws.{asked_desk}
-use Rattle.tq_interpreter.specs.Answer.{World, IsWhole, answer_of_run}
-use Rattle.tq_interpreter.specs.Asked.{begin_end, begin_asked}
-use Rattle.tq_interpreter.specs.Asking.{run_line}
+use Rattle.tq_interpreter.specs.Answer.{World, IsWhole, answer_of_run, begin_end, begin_asked}
+use Rattle.tq_interpreter.specs.Recorded.{run_line}
 use Rattle.tq_interpreter.specs.Known.{AreOfTree, Known}
 use Rattle.tq_interpreter.proofs.ShellLines.{answered_by, begun_of_tree, begun_whole}
 use Rattle.tq_interpreter.proofs.shell.Shell.begin.Goals as goal

@@ -1,5 +1,5 @@
 use Rattle.std.proofs.Common.{◌∙◌, ◌++◌, ap}
-use Rattle.tq_interpreter.specs.Operators.{board_of}
+use Rattle.tq_interpreter.specs.Answer.{board_of}
 use Rattle.tq_interpreter.proofs.shell.Shell.board.Goals as goal
 
 pub returns-clause-text : goal.returns-clause-text

@@ -3,9 +3,8 @@ use Rattle.tq_live.specs.declared.view.ViewAsk.{ViewAsk}
 use Rattle.tq_live.specs.declared.view.ViewAsk.TheVariants as asks
 use Rattle.tq_txn.specs.Dialogue.{line_result, view_line}
 use Rattle.tq_txn.proofs.LineLaws.{asked_view}
-use Rattle.tq_interpreter.specs.Answer.{World, answer_of_run}
-use Rattle.tq_interpreter.specs.Asked.{view_end, ok_text, cost_asked}
-use Rattle.tq_interpreter.specs.Asking.{run_line}
+use Rattle.tq_interpreter.specs.Answer.{World, answer_of_run, view_end, ok_text, cost_asked}
+use Rattle.tq_interpreter.specs.Recorded.{run_line}
 use Rattle.tq_interpreter.specs.Known.{Known}
 use Rattle.tq_interpreter.proofs.ShellLines.{answered_by}
 use Rattle.tq_interpreter.proofs.shell.Shell.set_cost.Goals as goal

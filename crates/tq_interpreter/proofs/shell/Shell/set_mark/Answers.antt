@@ -1,10 +1,9 @@
 use Rattle.std.proofs.Common.{◌∙◌, ◌++◌, [], ap}
 use Rattle.tq_txn.specs.Dialogue.{line_result}
-use Rattle.tq_client.specs.Script.{mark_line}
-use Rattle.tq_interpreter.specs.Answer.{World, answer_of_run}
-use Rattle.tq_interpreter.specs.Asked.{view_end, marked_text, mark_asked}
+use Rattle.tq_txn.specs.Script.{mark_line}
+use Rattle.tq_interpreter.specs.Answer.{World, answer_of_run, view_end, marked_text, mark_asked}
 use Rattle.tq_interpreter.specs.TxnAsked.{result_text}
-use Rattle.tq_interpreter.specs.Asking.{run_line}
+use Rattle.tq_interpreter.specs.Recorded.{run_line}
 use Rattle.tq_interpreter.specs.Known.{Known}
 use Rattle.tq_text.specs.Print.{printed_line}
 use Rattle.tq_interpreter.proofs.ShellLines.{answered_by}

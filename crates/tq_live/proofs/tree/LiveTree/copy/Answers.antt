@@ -1,6 +1,6 @@
 use Rattle.std.proofs.Common.{◌-◌, ◌≤◌, arith}
 use Rattle.std.proofs.Math.Pow.{pow_mono}
-use Rattle.tq_live.proofs.Even.{complete-leaves}
+use Rattle.tq_live.proofs.Repair.{complete-leaves}
 use Rattle.tq_live.proofs.tree.LiveTree.copy.Goals as goal
 
 pub copy-requires : goal.copy-requires

@@ -8,7 +8,7 @@ use Rattle.tq_locks.specs.Keys.{keys_under}
 use Rattle.tq_locks.specs.Kept.{locks_in, Agrees}
 use Rattle.tq_locks.proofs.Applied.{cond_same, entry_of_key, empty_keys}
 use Rattle.tq_locks.proofs.Changed.{agreed_self, locks_in-agreed, released-remove, released-none}
-use Rattle.tq_locks.proofs.TakenOut.{with_list, own-with_list, at_last, Agrees-out, Agrees-back, Agrees-popped}
+use Rattle.tq_locks.proofs.Partition.{with_list, own-with_list, at_last, Agrees-out, Agrees-back, Agrees-popped}
 use Rattle.tq_locks.proofs.keyed.KeyedLocks.release.Goals as goal
 
 pub loop-key-init : goal.loop-key-init

@@ -3,7 +3,7 @@ use Rattle.slab.specs.Slab.{Slab, HasRoomFor}
 use Rattle.tq_shape.specs.Journal.{Has}
 use Rattle.tq_locks.specs.Locks.{LockKey}
 use Rattle.tq_locks.specs.declared.mode.Lock.{Lock}
-use Rattle.tq_locks.proofs.Loosened.{inserted_lists, vacant_listed}
+use Rattle.tq_locks.proofs.Listed.{inserted_lists, vacant_listed}
 use Rattle.tq_locks.proofs.lock_slab.LockSlab.insert_reserved.Goals as goal
 
 pub invariant_of-self : goal.invariant_of-self

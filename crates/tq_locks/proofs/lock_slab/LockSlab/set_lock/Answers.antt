@@ -2,7 +2,7 @@ use Rattle.std.proofs.Common.{◌≡◌, Some, sym, subst}
 use Rattle.slab.specs.Slab.{Slab, get}
 use Rattle.tq_locks.specs.Locks.{LockKey}
 use Rattle.tq_locks.specs.declared.mode.Lock.{Lock}
-use Rattle.tq_locks.proofs.Loosened.{put_lists}
+use Rattle.tq_locks.proofs.Listed.{put_lists}
 use Rattle.tq_locks.proofs.lock_slab.LockSlab.set_lock.Goals as goal
 
 pub invariant_of-self : goal.invariant_of-self

@@ -5,7 +5,7 @@ use Rattle.std.specs.List.Sorted.{IsPermutation}
 use Rattle.tq_locks.specs.declared.mode.Lock.{Lock}
 use Rattle.tq_locks.specs.Locks.{LockKey, LocksView}
 use Rattle.tq_locks.specs.Kept.{locks_in}
-use Rattle.tq_locks.proofs.InOrder.{sorted-agreed}
+use Rattle.tq_locks.proofs.Steadied.{sorted-agreed}
 use Rattle.tq_locks.proofs.table.LockTable.entries.Goals as goal
 
 pub returns : goal.returns

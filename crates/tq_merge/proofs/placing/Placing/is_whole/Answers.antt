@@ -6,8 +6,8 @@ use Rattle.tq_node.specs.NodeJournal.{NodeEntry}
 use Rattle.tq_merge.specs.Order.{times, entries_of}
 use Rattle.tq_merge.specs.Placing.{PlacingView}
 use Rattle.tq_merge.proofs.Places.{length_each}
-use Rattle.tq_merge.proofs.Telling.{each_length}
-use Rattle.tq_merge.proofs.Wholes.{all_placed, not_desk, not_servers}
+use Rattle.tq_merge.proofs.Legality.{each_length}
+use Rattle.tq_merge.proofs.Greedy.{all_placed, not_desk, not_servers}
 use Rattle.tq_merge.proofs.placing.Placing.is_whole.Goals as goal
 
 pub returns-then-self-desk-clause-left : goal.returns-then-self-desk-clause-left

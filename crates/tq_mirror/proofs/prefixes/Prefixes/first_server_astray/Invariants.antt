@@ -1,5 +1,5 @@
 use Rattle.std.proofs.Common.{◌+◌}
-use Rattle.tq_mirror.specs.Astray.{ServersBegin}
+use Rattle.tq_mirror.specs.Prefixes.{ServersBegin}
 use Rattle.tq_mirror.proofs.prefixes.Prefixes.first_server_astray.Given as goal
 
 -- the servers so far begin so

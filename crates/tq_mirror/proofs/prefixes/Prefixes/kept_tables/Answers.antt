@@ -1,6 +1,6 @@
 use Rattle.std.proofs.Common.{subst}
 use Rattle.tq_tables.specs.Journals.{JournalsView}
-use Rattle.tq_mirror.specs.Kept.{AreKept}
+use Rattle.tq_mirror.specs.Prefixes.{AreKept}
 use Rattle.tq_mirror.proofs.prefixes.Prefixes.kept_tables.Goals as goal
 
 pub returns : goal.returns

@@ -7,8 +7,8 @@ use Rattle.tq_node.specs.declared.change.NodeStep.TheVariants.{Install}
 use Rattle.tq_store.specs.Copies.{copy_of, installed_all}
 use Rattle.tq_store.specs.Names.{same_name}
 use Rattle.tq_store.specs.declared.write.Write.{Write}
-use Rattle.tq_node.proofs.Untouched.{step-keeps, step-reaches}
-use Rattle.tq_node.specs.Untouched.{AreReached}
+use Rattle.tq_node.proofs.Installed.{step-keeps, step-reaches}
+use Rattle.tq_node.specs.Telling.{AreReached}
 use Rattle.tq_node.specs.declared.telling.Raised.TheVariants.{Written}
 use Rattle.tq_node.proofs.node.Node.tell_end.Goals as goal
 

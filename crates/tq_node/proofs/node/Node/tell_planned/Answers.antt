@@ -5,8 +5,8 @@ use Rattle.tq_node.specs.NodePlans.{change_fits, change_leads}
 use Rattle.tq_node.specs.declared.change.NodeChange.{NodeChange}
 use Rattle.tq_store.specs.Copies.{Files, copy_of}
 use Rattle.tq_store.specs.Names.{same_name}
-use Rattle.tq_node.proofs.Untouched.{step-keeps, step-reaches}
-use Rattle.tq_node.specs.Untouched.{AreReached, raised_files}
+use Rattle.tq_node.proofs.Installed.{step-keeps, step-reaches}
+use Rattle.tq_node.specs.Telling.{AreReached, raised_files}
 use Rattle.tq_node.specs.declared.telling.Raised.{Raised}
 use Rattle.tq_node.proofs.node.Node.tell_planned.Goals as goal
 

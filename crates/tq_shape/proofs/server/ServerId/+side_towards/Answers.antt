@@ -1,5 +1,5 @@
 use Rattle.std.proofs.Common.{rules}
-use Rattle.tq_shape.proofs.Towards.{found_here, found_higher, none_at_root, none_higher}
+use Rattle.tq_shape.proofs.Tree.{found_here, found_higher, none_at_root, none_higher}
 use Rattle.tq_shape.proofs.server.ServerId.+side_towards.Goals as goal
 
 pub returns-in-None-clause-none : goal.returns-in-None-clause-none

@@ -2,7 +2,7 @@ use Rattle.std.proofs.Common.{◌≡◌, ◌∙◌, ℕ, List, Some, nat_eq, ref
 use Rattle.std.specs.Cmp.Lexicographic.{pointwise}
 use Rattle.std.specs.Map.{lookup}
 use Rattle.tq_store.specs.Copies.{CopiesView, copy_at, copy_of}
-use Rattle.tq_store.proofs.Kept.{get_name}
+use Rattle.tq_store.proofs.Installed.{get_name}
 use Rattle.tq_store.proofs.copies.Copies.noted_copy.Goals as goal
 
 pub returns-then-eq : goal.returns-then-eq

@@ -1,5 +1,5 @@
 use Rattle.std.proofs.Common.{arith}
-use Rattle.tq_store.proofs.Opened.{opened}
+use Rattle.tq_store.proofs.Placed.{opened}
 use Rattle.tq_store.proofs.ordered.Ordered.capacity.Goals as goal
 
 pub returns : goal.returns

@@ -1,8 +1,7 @@
 use Rattle.std.proofs.Common.{take, is_some, position, sym, ap, subst, ◌∙◌, arith}
-use Rattle.tq_store.proofs.Opened.{opened}
+use Rattle.tq_store.proofs.Placed.{opened, placed_found}
 use Rattle.std.specs.List.{IsDistinct}
 use Rattle.indexmap.proofs.MapLemmas.{some_index}
-use Rattle.tq_store.proofs.Placed.{placed_found}
 use Rattle.tq_store.proofs.ordered.Ordered.find.Goals as goal
 
 pub find_from-requires-clause-within : goal.find_from-requires-clause-within

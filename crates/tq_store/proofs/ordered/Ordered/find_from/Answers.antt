@@ -1,6 +1,5 @@
 use Rattle.std.proofs.Common.{◌≡◌, ◌≤◌, length, take, None, position, sym, ap, ◌∙◌, arith, get_or-take, length-take-le}
-use Rattle.tq_store.proofs.Opened.{opened}
-use Rattle.tq_store.proofs.Placed.{none_passes, position_first, position_none}
+use Rattle.tq_store.proofs.Placed.{opened, none_passes, position_first, position_none}
 use Rattle.tq_store.proofs.ordered.Ordered.find_from.Goals as goal
 
 pub loop-place-init : goal.loop-place-init

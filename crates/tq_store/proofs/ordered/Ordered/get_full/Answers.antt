@@ -1,5 +1,5 @@
 use Rattle.std.proofs.Common.{rules, sym, ap, ◌∙◌, arith, slice_get}
-use Rattle.tq_store.proofs.Opened.{opened}
+use Rattle.tq_store.proofs.Placed.{opened}
 use Rattle.indexmap.proofs.MapLemmas.{Found-position, Missing-position}
 use Rattle.std_collections.proofs.Zip.{slice_get_at, slice_get-zip}
 use Rattle.tq_store.proofs.ordered.Ordered.get_full.Goals as goal

@@ -1,5 +1,5 @@
 use Rattle.std.proofs.Common.{◌<◌, length, sym, ap, subst, ◌∙◌, arith, slice_get}
-use Rattle.tq_store.proofs.Opened.{opened}
+use Rattle.tq_store.proofs.Placed.{opened}
 use Rattle.std.specs.List.{IsDistinct}
 use Rattle.std_collections.proofs.Zip.{slice_get-zip}
 use Rattle.std_collections.proofs.HashMapEq.{own_value}

@@ -1,5 +1,5 @@
 use Rattle.std.proofs.Common.{Some, sym, ap, ◌∙◌, arith, slice_get}
-use Rattle.tq_store.proofs.Opened.{opened}
+use Rattle.tq_store.proofs.Placed.{opened}
 use Rattle.std_collections.proofs.Zip.{slice_get_at, zip-set_value}
 use Rattle.indexmap.specs.IndexMap.{set_value_at}
 use Rattle.tq_store.specs.Bounded.{with_spare}

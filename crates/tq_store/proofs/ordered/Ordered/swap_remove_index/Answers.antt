@@ -1,5 +1,5 @@
 use Rattle.std.proofs.Common.{◌≡◌, ◌<◌, length, sym, ap, subst, ◌∙◌, arith, rules, slice_get, zip, swap_remove}
-use Rattle.tq_store.proofs.Opened.{distinct_removed, opened}
+use Rattle.tq_store.proofs.Placed.{distinct_removed, opened}
 use Rattle.std.specs.List.{IsDistinct}
 use Rattle.std_collections.proofs.Zip.{slice_get-zip, zip-swap_remove}
 use Rattle.tq_store.specs.Bounded.{ArePlaced}

@@ -1,6 +1,6 @@
 use Rattle.std.proofs.Common.{subst, ◌∙◌}
 use Rattle.std.specs.List.{IsDistinct}
-use Rattle.tq_store.proofs.Opened.{opened}
+use Rattle.tq_store.proofs.Placed.{opened}
 use Rattle.tq_store.proofs.ordered.Ordered.values.Goals as goal
 
 pub returns-clause-value : goal.returns-clause-value

@@ -4,8 +4,7 @@ use Rattle.std.specs.Map.{lookup}
 use Rattle.std.proofs.lemmas.Bool.{OnTrue_at}
 use Rattle.indexmap.proofs.MapLemmas.{value_index}
 use Rattle.tq_store.specs.Names.{same_name}
-use Rattle.tq_tables.specs.Early.{has_row}
-use Rattle.tq_tables.specs.Files.{FilesView, stood_at}
+use Rattle.tq_tables.specs.Files.{has_row, FilesView, stood_at}
 use Rattle.tq_tables.specs.declared.file_row.FileRow.{FileRow}
 use Rattle.tq_tables.proofs.Kept.{absent-stood, has_row-found}
 use Rattle.tq_tables.proofs.Placed.{found-there}

@@ -2,9 +2,9 @@ use Rattle.std.proofs.Common.{◌≡◌, ◌+◌, ◌++◌, Bool, true, List, []
 use Rattle.std.specs.Bool.{OnTrue}
 use Rattle.std.proofs.lemmas.List.{map-append}
 use Rattle.tq_store.specs.declared.write.Write.{Write}
-use Rattle.tq_tables.specs.Early.{HaveRows, has_row}
+use Rattle.tq_tables.specs.Files.{HaveRows, has_row}
 use Rattle.tq_tables.specs.Files as spec
-use Rattle.tq_tables.specs.NamesApart.{is_in}
+use Rattle.tq_tables.specs.Rows.{is_in}
 use Rattle.tq_tables.specs.declared.file_row.FileRow.{FileRow}
 use Rattle.tq_tables.proofs.Held.{have-next, names-all_stood}
 use Rattle.tq_tables.proofs.Kept.{all_stood-append}

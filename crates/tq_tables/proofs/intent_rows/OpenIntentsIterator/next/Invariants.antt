@@ -1,7 +1,5 @@
 use Rattle.std.proofs.Common.{◌≡◌, ◌++◌, length}
-use Rattle.tq_tables.specs.DeskStates.{intent_state_at}
-use Rattle.tq_tables.specs.Rows.{intent_rows}
-use Rattle.tq_tables.specs.Walk.{left_at}
+use Rattle.tq_tables.specs.Rows.{intent_state_at, intent_rows, left_at}
 use Rattle.tq_tables.proofs.intent_rows.OpenIntentsIterator.next.Given as goal
 
 -- the servers that were passed have no vote left

@@ -1,8 +1,7 @@
 use Rattle.std.proofs.Common.{ap, sym, subst, ◌∙◌}
 use Rattle.tq_live.specs.View.{view_after}
-use Rattle.tq_live.specs.ViewChanges.{ViewFits, view_changed}
-use Rattle.tq_live.specs.ViewLaws.{change_fits, change_leads}
-use Rattle.tq_live.specs.declared.change.ViewChange.{ViewChange}
+use Rattle.tq_live.specs.ViewLaws.{ViewFits, view_changed, change_fits, change_leads}
+use Rattle.tq_live.specs.declared.view.ViewChange.{ViewChange}
 use Rattle.tq_tables.specs.Parts.{PartsView}
 use Rattle.tq_tables.proofs.parts.Parts.ask_view.Goals as goal
 

@@ -1,6 +1,6 @@
 use Rattle.std.proofs.Common.{ap}
 use Rattle.tq_live.specs.Live.{Live}
-use Rattle.tq_tables.proofs.Replayed.{of_tree-at}
+use Rattle.tq_tables.proofs.RowLaws.{of_tree-at}
 use Rattle.tq_tables.proofs.parts.Parts.new.Goals as goal
 
 pub invariant_of-result : goal.invariant_of-result

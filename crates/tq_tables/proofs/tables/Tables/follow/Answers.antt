@@ -1,4 +1,4 @@
-use Rattle.tq_tables.proofs.Beside.{may-ask-server, may-ask-the-desk}
+use Rattle.tq_tables.proofs.Noted.{may-ask-server, may-ask-the-desk}
 use Rattle.tq_tables.proofs.tables.Tables.follow.Goals as goal
 
 pub ask_node-requires : goal.ask_node-requires

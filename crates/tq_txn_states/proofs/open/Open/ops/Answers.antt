@@ -1,4 +1,4 @@
-use Rattle.tq_txn_states.proofs.OneGrant.{quorums-order}
+use Rattle.tq_txn_states.proofs.Searched.{quorums-order}
 use Rattle.tq_txn_states.proofs.open.Open.ops.Goals as goal
 
 pub returns-clause-order : goal.returns-clause-order

@@ -1,7 +1,7 @@
 use Rattle.tq_txn_states.proofs.GoodOps.{IsOpen-rewritten}
 use Rattle.std.proofs.Common.{List}
 use Rattle.tq_txn_states.specs.declared.told.NodeTold.{NodeTold}
-use Rattle.tq_txn_states.specs.Cited.{KeepsOnly}
+use Rattle.tq_txn_states.specs.Voting.{KeepsOnly}
 use Rattle.tq_txn_states.specs.Open.{OpenView}
 use Rattle.tq_txn_states.proofs.CitedLaws.{rewrite_keeps}
 use Rattle.tq_txn_states.proofs.open.Open.rewrite.Goals as goal

@@ -1,5 +1,5 @@
 use Rattle.std.proofs.Common.{sym, subst}
-use Rattle.tq_txn_states.specs.Cited.{KeepsOnly}
+use Rattle.tq_txn_states.specs.Voting.{KeepsOnly}
 use Rattle.tq_txn_states.proofs.open.Open.touch.Goals as goal
 
 pub returns-clause-cited : goal.returns-clause-cited

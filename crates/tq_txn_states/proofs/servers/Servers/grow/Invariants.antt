@@ -1,6 +1,6 @@
 use Rattle.std.proofs.Common.{◌≡◌, ◌≤◌, ◌+◌, drop, length}
 use Rattle.tq_evidence.specs.Evidence.{granters}
-use Rattle.tq_txn_states.specs.Sets.{with_numbers}
+use Rattle.tq_txn_states.specs.Open.{with_numbers}
 use Rattle.tq_txn_states.proofs.servers.Servers.grow.Given as goal
 
 abbrev pub invariant-loop-grant : goal.invariant-loop-grant

@@ -4,7 +4,7 @@ use Rattle.tq_asks.specs.declared.ask.WorkAsk.TheVariants.{Prepare}
 use Rattle.tq_store.specs.declared.write.Write.{Write}
 use Rattle.tq_evidence.specs.declared.op.Op.{Op}
 use Rattle.tq_txn_states.specs.Voting.{HasWhole, writes_all_at, write_in, writes_in}
-use Rattle.tq_txn_states.proofs.SameWrites.{writes_all}
+use Rattle.tq_txn_states.proofs.GoodEvidence.{writes_all}
 use Rattle.tq_txn_states.proofs.voting.Voting.asked_before.Goals as goal
 
 pub returns : goal.returns

@@ -4,7 +4,7 @@ use Rattle.tq_asks.specs.declared.ask.WorkAsk.TheVariants.{Prepare}
 use Rattle.tq_store.specs.declared.write.Write.{Write}
 use Rattle.tq_evidence.specs.declared.op.Op.{Op}
 use Rattle.tq_txn_states.specs.Voting.{writes_all_at, writes_at}
-use Rattle.tq_txn_states.proofs.SameWrites.{writes_all}
+use Rattle.tq_txn_states.proofs.GoodEvidence.{writes_all}
 use Rattle.tq_txn_states.proofs.voting.Voting.keep.Goals as goal
 
 pub invariant_of-self-then-is_ask_at-4 : goal.invariant_of-self-then-is_ask_at-4

@@ -1,6 +1,6 @@
 use Rattle.std.proofs.Common.{ap, ◌∙◌}
 use Rattle.std.specs.FinMap as fin
-use Rattle.tq_evidence.proofs.NameTable.{get_at}
+use Rattle.tq_evidence.proofs.HeldTable.{get_at}
 use Rattle.tq_evidence.proofs.evidence.held.HeldSince.get.Goals as goal
 
 pub returns : goal.returns

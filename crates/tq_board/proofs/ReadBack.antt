@@ -1,0 +1,160 @@
+-- The text of a value, with a line feed after it, is read as the value. The text of a value has no line feed, and is a
+-- line with one behind it.
+use Rattle.std.proofs.Common.{◌≡◌, ℕ, ◌-◌, ◌≤◌, List, [], ◌∷◌, ◌++◌, Option, Some, option_and_then, refl, sym, ap, ◌∙◌, arith, append-nil, ◌<◌, ◌^◌, ◌+◌, nat_lt, ◌/◌, ◌%◌, zero, suc, Bool, true, false, cond, map, subst}
+use Rattle.json.specs.Token.{Token}
+use Rattle.json.specs.Lex.{tokens}
+use Rattle.json.specs.Json as json
+use Rattle.json.specs.Tree as tree
+use Rattle.json.proofs.Printed.Decimals.{IsNumber-decimal}
+use Rattle.json.proofs.Printed.Trees.{value-json_tokens, ArePrintable-json_tokens}
+use Rattle.serde_json.specs.Data.{unsigned, negative, float, Data, null, boolean, number, string, array, object, Items, no_items, item, Members, no_members, member, put}
+use Rattle.serde_json.specs.Read.{read, of_json, of_items, of_members, max_depth}
+use Rattle.serde_json.specs.Written.{outline, items_outline, members_outline, compact_text, items_text, members_text, comma_if}
+use Rattle.serde_json.proofs.Numbers.{number_of-decimal}
+use Rattle.serde_json.proofs.Texts.{print-outline}
+use Rattle.tq_board.specs.Values.{IsFitting, AreFitting, HasFitting}
+use Rattle.tq_board.proofs.Shapes.{IsShaped, AreShaped, HasShaped, put_all}
+use Rattle.tq_board.proofs.Plain.{tokens-line}
+use Rattle.std.specs.Char.{digit_char}
+use Rattle.std.specs.Prelude.{decimal}
+use Rattle.std.proofs.lemmas.Bool.Decides.{nat_tests}
+use Rattle.std.proofs.lemmas.Fmt.{decimal-digits_of, decimal_digit}
+use Rattle.json.specs.Print.{escape, escape_byte, escape_letter, quoted}
+use Rattle.tq_board.specs.Lines.{HasNoFeed, IsLine, line_of}
+
+-- what the reader makes of what the grammar took
+abbrev whole : Option (json.Json × List Token) → Option Data
+whole o = option_and_then of_json (option_and_then (λ p. json.if_last p.0 p.1) o)
+
+mutual
+  of_json-outline : (value : Data) (levels : ℕ) → IsShaped value levels → IsFitting value → of_json (outline value) ≡ Some value
+  of_json-outline null levels h f = refl
+  of_json-outline (boolean b) levels h f = refl
+  of_json-outline (number (unsigned n)) levels h f = rw (number_of-decimal n f)
+  of_json-outline (number (negative z)) levels h f = absurd f
+  of_json-outline (number (float x)) levels h f = absurd f
+  of_json-outline (string s) levels h f = refl
+  of_json-outline (array values) levels h f = rw (of_items-outline values (levels - 1) h.1 f)
+  of_json-outline (object members) levels h f = rw (of_members-outline members (levels - 1) no_members h.1 f, h.2)
+
+  of_items-outline : (values : Items) (levels : ℕ) → AreShaped values levels → AreFitting values → of_items (items_outline values) ≡ Some values
+  of_items-outline no_items levels h f = refl
+  of_items-outline (item value rest) levels h f = rw (of_json-outline value levels h.0 f.0, of_items-outline rest levels h.1 f.1)
+
+  of_members-outline : (members : Members) (levels : ℕ) (found : Members) → HasShaped members levels → HasFitting members → of_members (members_outline members) found ≡ Some (put_all members found)
+  of_members-outline no_members levels found h f = refl
+  of_members-outline (member name value rest) levels found h f = rw (of_json-outline value levels h.0 f.0) (of_members-outline rest levels (put name value found) h.1 f.1)
+
+mutual
+  has_numbers : (value : Data) → IsFitting value → tree.HasNumbers (outline value)
+  has_numbers null f = tt
+  has_numbers (boolean b) f = tt
+  has_numbers (number (unsigned n)) f = IsNumber-decimal n f
+  has_numbers (number (negative z)) f = absurd f
+  has_numbers (number (float x)) f = absurd f
+  has_numbers (string s) f = tt
+  has_numbers (array values) f = items_have_numbers values f
+  has_numbers (object members) f = members_have_numbers members f
+
+  items_have_numbers : (values : Items) → AreFitting values → tree.ItemsHaveNumbers (items_outline values)
+  items_have_numbers no_items f = tt
+  items_have_numbers (item value rest) f = (has_numbers value f.0, items_have_numbers rest f.1)
+
+  members_have_numbers : (members : Members) → HasFitting members → tree.MembersHaveNumbers (members_outline members)
+  members_have_numbers no_members f = tt
+  members_have_numbers (member name value rest) f = (has_numbers value f.0, members_have_numbers rest f.1)
+
+mutual
+  nests : (value : Data) (levels : ℕ) → IsShaped value levels → IsFitting value → tree.depth (outline value) ≤ levels
+  nests null levels h f = omega arith
+  nests (boolean b) levels h f = omega arith
+  nests (number n) levels h f = omega arith
+  nests (string s) levels h f = omega arith
+  nests (array values) levels h f = omega (arith, h.0, items_nest values (levels - 1) h.1 f)
+  nests (object members) levels h f = omega (arith, h.0, members_nest members (levels - 1) h.1 f)
+
+  items_nest : (values : Items) (levels : ℕ) → AreShaped values levels → AreFitting values → tree.items_depth (items_outline values) ≤ levels
+  items_nest no_items levels h f = omega arith
+  items_nest (item value rest) levels h f = omega (arith, nests value levels h.0 f.0, items_nest rest levels h.1 f.1)
+
+  members_nest : (members : Members) (levels : ℕ) → HasShaped members levels → HasFitting members → tree.members_depth (members_outline members) ≤ levels
+  members_nest no_members levels h f = omega arith
+  members_nest (member name value rest) levels h f = omega (arith, nests value levels h.0 f.0, members_nest rest levels h.1 f.1)
+
+pub read-line : (value : Data) → IsShaped value max_depth → IsFitting value → read (compact_text value ++ 10 ∷ []) ≡ Some value
+read-line value h f =
+    let parts = tree.json_tokens (outline value) in
+    let lexed : tokens (compact_text value ++ 10 ∷ []) ≡ parts =
+    ap (λ text. tokens (text ++ 10 ∷ [])) (sym (print-outline value)) ∙ tokens-line parts (ArePrintable-json_tokens (outline value) (has_numbers value f)) in
+    ap whole (ap (json.value max_depth) (lexed ∙ sym (append-nil parts)) ∙ value-json_tokens (outline value) max_depth [] (nests value max_depth h f))
+    ∙ of_json-outline value max_depth h f
+
+-- ---- unbroken
+
+other : (byte : ℕ) → 10 < byte → byte ≡ 10 → ⊥
+other byte above is = omega (arith, above, is)
+
+pub no-feed-append : (xs ys : List ℕ) → HasNoFeed xs → HasNoFeed ys → HasNoFeed (xs ++ ys)
+no-feed-append [] ys p q = q
+no-feed-append (x ∷ xs) ys p q = (p.0, no-feed-append xs ys p.1 q)
+
+digits : (ds : List ℕ) → HasNoFeed (map (λ d. 48 + d) ds)
+digits [] = tt
+digits (d ∷ ds) = (λ is. omega (arith, is), digits ds)
+
+decimal-unbroken : (n : ℕ) → n < 2 ^ 64 → HasNoFeed (decimal n)
+decimal-unbroken zero fits = subst HasNoFeed (sym (decimal_digit 0 (omega arith))) (other 48 (omega arith), tt)
+decimal-unbroken (suc n) fits = subst HasNoFeed (sym (decimal-digits_of (suc n) (omega arith) fits)) (digits _)
+
+letter : (x : ℕ) → escape_letter x ≡ 10 → ⊥
+letter x is = grind (arith, nat_tests, is)
+
+digit : (d : ℕ) → digit_char d ≡ 10 → ⊥
+digit d is = grind (arith, nat_tests, is)
+
+plain : (x : ℕ) → nat_lt x 32 ≡ false → x ≡ 10 → ⊥
+plain x high is = grind (arith, nat_tests, high, is)
+
+by_tests : (x : ℕ) (short control : Bool) → nat_lt x 32 ≡ control → HasNoFeed (cond short (92 ∷ escape_letter x ∷ []) (cond control (92 ∷ 117 ∷ 48 ∷ 48 ∷ digit_char (x / 16) ∷ digit_char (x % 16) ∷ []) (x ∷ [])))
+by_tests x true control e = (other 92 (omega arith), (letter x, tt))
+by_tests x false true e = (other 92 (omega arith), (other 117 (omega arith), (other 48 (omega arith), (other 48 (omega arith), (digit (x / 16), (digit (x % 16), tt))))))
+by_tests x false false e = (plain x e, tt)
+
+escape-unbroken : (bytes : List ℕ) → HasNoFeed (escape bytes)
+unfolding escape_byte
+escape-unbroken [] = tt
+escape-unbroken (x ∷ bytes) = no-feed-append (escape_byte x) (escape bytes) (by_tests x (nat_lt 0 (escape_letter x)) (nat_lt x 32) refl) (escape-unbroken bytes)
+
+quoted-unbroken : (bytes : List ℕ) → HasNoFeed (quoted bytes)
+quoted-unbroken bytes = (other 34 (omega arith), no-feed-append (escape bytes) (34 ∷ []) (escape-unbroken bytes) (other 34 (omega arith), tt))
+
+comma-unbroken : (later : Bool) → HasNoFeed (comma_if later)
+comma-unbroken true = (other 44 (omega arith), tt)
+comma-unbroken false = tt
+
+mutual
+  pub text-unbroken : (value : Data) → IsFitting value → HasNoFeed (compact_text value)
+  text-unbroken null f = (other 110 (omega arith), (other 117 (omega arith), (other 108 (omega arith), (other 108 (omega arith), tt))))
+  text-unbroken (boolean true) f = (other 116 (omega arith), (other 114 (omega arith), (other 117 (omega arith), (other 101 (omega arith), tt))))
+  text-unbroken (boolean false) f = (other 102 (omega arith), (other 97 (omega arith), (other 108 (omega arith), (other 115 (omega arith), (other 101 (omega arith), tt)))))
+  text-unbroken (number (unsigned n)) f = decimal-unbroken n f
+  text-unbroken (number (negative z)) f = absurd f
+  text-unbroken (number (float x)) f = absurd f
+  text-unbroken (string s) f = quoted-unbroken s
+  text-unbroken (array values) f = (other 91 (omega arith), items-unbroken false values f)
+  text-unbroken (object members) f = (other 123 (omega arith), members-unbroken false members f)
+
+  items-unbroken : (later : Bool) (values : Items) → AreFitting values → HasNoFeed (items_text later values)
+  items-unbroken later no_items f = (other 93 (omega arith), tt)
+  items-unbroken later (item value rest) f =
+      no-feed-append (comma_if later) _ (comma-unbroken later) (no-feed-append (compact_text value) (items_text true rest) (text-unbroken value f.0) (items-unbroken true rest f.1))
+
+  members-unbroken : (later : Bool) (members : Members) → HasFitting members → HasNoFeed (members_text later members)
+  members-unbroken later no_members f = (other 125 (omega arith), tt)
+  members-unbroken later (member name value rest) f =
+      no-feed-append (comma_if later) _ (comma-unbroken later)
+      (no-feed-append (quoted name) _ (quoted-unbroken name)
+      (other 58 (omega arith), no-feed-append (compact_text value) (members_text true rest) (text-unbroken value f.0) (members-unbroken true rest f.1)))
+
+pub is-line : (value : Data) (text : List ℕ) → IsFitting value → text ≡ line_of value → IsLine text
+is-line value text fits is = record { bytes = compact_text value; unbroken = text-unbroken value fits; ended = is }

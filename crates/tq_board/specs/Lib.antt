@@ -1,0 +1,6 @@
+pub mod Lines
+pub mod Values
+pub mod Nodes
+pub mod Form
+pub mod Views
+pub mod Sound

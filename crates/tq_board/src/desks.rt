@@ -1,0 +1,167 @@
+//! What the desk is asked and what it replies.
+use crate::codes;
+use crate::out::Out;
+use crate::to_json::{ToJson, put_after, put_code};
+use tq_desk::{DeskAsk, DeskRefusal, DeskReply};
+use tq_evidence::{Grant, Op, OpKind, Rule, Vote};
+
+impl ToJson for OpKind {
+    ghost use Rattle.tq_board.specs.Form.{op_kind_value};
+    ghost use Rattle.tq_board.specs.Sound.{IsAny};
+
+    ghost value = { op_kind_value };
+
+    ghost sound = { IsAny };
+
+    fn put<O: Out>(&self, out: &mut O) -> Result<(), O::Fault> {
+        match self {
+            OpKind::Read => out.push("\"read\""),
+            OpKind::Write => out.push("\"write\""),
+        }
+    }
+}
+
+impl ToJson for Grant {
+    ghost use Rattle.tq_board.specs.Form.{grant_value};
+    ghost use Rattle.tq_board.specs.Sound.{IsGrant};
+
+    ghost value = { grant_value };
+
+    ghost sound = { IsGrant };
+
+    fn put<O: Out>(&self, out: &mut O) -> Result<(), O::Fault> {
+        put_after(out, "{\"content\":", &self.content)?;
+        put_after(out, ",\"mode\":", &self.mode)?;
+        put_after(out, ",\"number\":", &self.number)?;
+        put_after(out, ",\"server\":", &self.server)?;
+        put_after(out, ",\"version\":", &self.version)?;
+        out.push("}")
+    }
+}
+
+impl ToJson for Op {
+    ghost use Rattle.tq_board.specs.Form.{op_value};
+    ghost use Rattle.tq_board.specs.Sound.{IsOp};
+
+    ghost value = { op_value };
+
+    ghost sound = { IsOp };
+
+    fn put<O: Out>(&self, out: &mut O) -> Result<(), O::Fault> {
+        put_after(out, "{\"content\":", &self.content)?;
+        put_after(out, ",\"file\":", &self.file)?;
+        put_after(out, ",\"grants\":", &self.grants)?;
+        put_after(out, ",\"kind\":", &self.kind)?;
+        put_after(out, ",\"version\":", &self.version)?;
+        out.push("}")
+    }
+}
+
+impl ToJson for Vote {
+    ghost use Rattle.tq_board.specs.Form.{vote_value};
+    ghost use Rattle.tq_board.specs.Sound.{IsVote};
+
+    ghost value = { vote_value };
+
+    ghost sound = { IsVote };
+
+    fn put<O: Out>(&self, out: &mut O) -> Result<(), O::Fault> {
+        put_after(out, "{\"held\":", &self.held)?;
+        put_after(out, ",\"number\":", &self.number)?;
+        put_after(out, ",\"server\":", &self.server)?;
+        put_after(out, ",\"writes\":", &self.writes)?;
+        out.push("}")
+    }
+}
+
+impl ToJson for DeskAsk {
+    ghost use Rattle.tq_board.specs.Form.{desk_ask_value};
+    ghost use Rattle.tq_board.specs.Sound.{IsDeskAsk};
+
+    ghost value = { desk_ask_value };
+
+    ghost sound = { IsDeskAsk };
+
+    fn put<O: Out>(&self, out: &mut O) -> Result<(), O::Fault> {
+        match self {
+            DeskAsk::Begin => out.push("{\"is\":\"begin\"}"),
+            DeskAsk::Commit { txn, ops, votes } => {
+                put_after(out, "{\"is\":\"commit\",\"ops\":", ops)?;
+                put_after(out, ",\"txn\":", txn)?;
+                put_after(out, ",\"votes\":", votes)?;
+                out.push("}")
+            }
+            DeskAsk::Resolve { txn } => {
+                put_after(out, "{\"is\":\"resolve\",\"txn\":", txn)?;
+                out.push("}")
+            }
+        }
+    }
+}
+
+impl ToJson for Rule {
+    ghost use Rattle.tq_board.specs.Form.{rule_value};
+    ghost use Rattle.tq_board.specs.Sound.{IsAny};
+
+    ghost value = { rule_value };
+
+    ghost sound = { IsAny };
+
+    fn put<O: Out>(&self, out: &mut O) -> Result<(), O::Fault> {
+        out.push_number(self.number())
+    }
+}
+
+impl ToJson for DeskRefusal {
+    ghost use Rattle.tq_board.specs.Form.{desk_refusal_value};
+    ghost use Rattle.tq_board.specs.Sound.{IsAny};
+
+    ghost value = { desk_refusal_value };
+
+    ghost sound = { IsAny };
+
+    fn put<O: Out>(&self, out: &mut O) -> Result<(), O::Fault> {
+        match self {
+            DeskRefusal::NoSuchTxn => put_code(out, codes::NO_SUCH_TXN),
+            DeskRefusal::Decided(verdict) => {
+                put_after(out, "{\"code\":", &codes::DECIDED)?;
+                put_after(out, ",\"is\":\"refused\",\"verdict\":", verdict)?;
+                out.push("}")
+            }
+            DeskRefusal::TooManyOps => put_code(out, codes::TOO_MANY_OPS),
+            DeskRefusal::BadEvidence { rule } => {
+                put_after(out, "{\"code\":", &codes::BAD_EVIDENCE)?;
+                put_after(out, ",\"is\":\"refused\",\"rule\":", rule)?;
+                out.push("}")
+            }
+            DeskRefusal::TooManyFiles => put_code(out, codes::TOO_MANY_FILES),
+        }
+    }
+}
+
+impl ToJson for DeskReply {
+    ghost use Rattle.tq_board.specs.Form.{desk_reply_value};
+    ghost use Rattle.tq_board.specs.Sound.{IsAny};
+
+    ghost value = { desk_reply_value };
+
+    ghost sound = { IsAny };
+
+    fn put<O: Out>(&self, out: &mut O) -> Result<(), O::Fault> {
+        match self {
+            DeskReply::Txn(txn) => {
+                put_after(out, "{\"is\":\"txn\",\"txn\":", txn)?;
+                out.push("}")
+            }
+            DeskReply::Verdict(verdict) => {
+                put_after(out, "{\"is\":\"verdict\",\"verdict\":", verdict)?;
+                out.push("}")
+            }
+            DeskReply::Committed { serial } => {
+                put_after(out, "{\"is\":\"committed\",\"serial\":", serial)?;
+                out.push("}")
+            }
+            DeskReply::Refused(refusal) => refusal.put(out),
+        }
+    }
+}

@@ -1,7 +1,0 @@
-use Rattle.std.proofs.lemmas.Bool.Decides.{Decides-at}
-use Rattle.tq_equality.specs.Same.{same_node_reply}
-use Rattle.tq_equality.proofs.Equal.{decides, node_reply-is, node_reply-self}
-use Rattle.tq_equality.proofs.node.OfServerAlike.is_same_reply.Goals as goal
-
-pub returns : goal.returns
-returns c = Decides-at _ _ c.test_of_reply.ensures (decides same_node_reply node_reply-is node_reply-self c.args.one.now c.args.other.now)

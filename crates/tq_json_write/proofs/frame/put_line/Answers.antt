@@ -1,5 +1,0 @@
-use Rattle.tq_json_write.proofs.Chained.{added}
-use Rattle.tq_json_write.proofs.frame.put_line.Goals as goal
-
-pub returns-clause-adds : goal.returns-clause-adds
-returns-clause-adds g c = added c.in_ok-put_journals.ensures.adds c.in_ok-push.ensures

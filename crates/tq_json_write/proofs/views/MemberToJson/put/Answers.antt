@@ -1,5 +1,0 @@
-use Rattle.tq_json_write.proofs.Members.{found}
-use Rattle.tq_json_write.proofs.views.MemberToJson.put.Goals as goal
-
-pub returns-clause-kept : goal.returns-clause-kept
-returns-clause-kept g c = found c.args.self.now.levels c.servers.result.now c.args.self.now.servers c.servers.ensures.numbers c.servers.ensures.member

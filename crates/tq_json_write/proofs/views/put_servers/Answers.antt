@@ -1,9 +1,0 @@
-use Rattle.tq_json_write.specs.Values.{whole}
-use Rattle.tq_json_write.proofs.Fused.{value_items-map}
-use Rattle.tq_json_write.proofs.views.put_servers.Goals as goal
-
-pub returns-clause-adds : goal.returns-clause-adds
-returns-clause-adds g c = rw (value_items-map whole (λ server. server.number) c.args.servers.now) at c.in_ok-put_list.ensures.adds
-
-pub returns-clause-fits : goal.returns-clause-fits
-returns-clause-fits g c = rw (value_items-map whole (λ server. server.number) c.args.servers.now) at c.in_ok-put_list.ensures.fits

@@ -1,0 +1,12 @@
+use Rattle.std.proofs.Common.{◌≡◌, take, length}
+use Rattle.std.specs.Prelude.{vec_len}
+use Rattle.tq_merge.specs.Told.{Rise}
+use Rattle.tq_merge.proofs.LastNumbers.{KeepsLast}
+use Rattle.tq_merge.proofs.claimed.first_fallen.Given as goal
+
+abbrev pub invariant-loop-name : goal.invariant-loop-name
+invariant-loop-name l = record {
+  one_each : vec_len l.last ≡ length l.counts;
+  rise : Rise (take l.name-index l.names);
+  keeps : KeepsLast l.last.items (take l.name-index l.names);
+}

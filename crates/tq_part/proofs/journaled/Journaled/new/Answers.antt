@@ -1,5 +1,0 @@
-use Rattle.tq_part.specs.Agrees.{standing_part}
-use Rattle.tq_part.proofs.journaled.Journaled.new.Goals as goal
-
-pub returns : goal.returns
-returns g c = λ i. standing_part c.args.part (c.new.ensures.items i) c.args.limit

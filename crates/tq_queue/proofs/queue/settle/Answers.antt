@@ -1,6 +1,0 @@
-use Rattle.crossbeam_channel.specs.Claims.{view}
-use Rattle.tq_queue.proofs.Steps.{learns}
-use Rattle.tq_queue.proofs.queue.settle.Goals as goal
-
-pub learn_as-requires-clause-rule : goal.learn_as-requires-clause-rule
-learn_as-requires-clause-rule g c = learns c.args.pass.now.id (view c.args.pass.now) c.requires.whole.0 c.requires.whole.1

@@ -1,5 +1,0 @@
-use Rattle.std.proofs.Common.{rules}
-use Rattle.tq_world.proofs.founded.is_granted.Goals as goal
-
-pub returns-then-version-grant : goal.returns-then-version-grant
-returns-then-version-grant c = search rules

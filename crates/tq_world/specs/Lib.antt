@@ -1,9 +1,0 @@
-pub use Rattle.tq_shape.specs.Journal
-pub use Rattle.tq_tables.specs.Journals
-pub mod World
-pub mod Founded
-pub mod Steps
-pub mod CommittedReads
-pub mod JournalOf
-pub mod Offered
-pub mod Headline
