@@ -2,7 +2,7 @@
 -- and one of no more gives what its bytes are. A number with a minus sign is no number of 64 bits without a sign. A
 -- number that is less than the greatest float is finite.
 use Rattle.std.proofs.Common.{◌≡◌, ◌+◌, ◌-◌, ◌*◌, ◌^◌, ◌<◌, ◌≤◌, ◌∷◌, ◌++◌, ℕ, zero, suc, List, [], length, take, get_or, false, Some, refl, sym, ap, ◌∙◌, arith, append-nil, cond, Option, None, Result, Ok, Err, ◌&&◌, ℤ, Float, Bool, true, if◌then◌else◌, nat_lt, nat_le, ◌==◌, true≢false, T, length-append}
-use Rattle.std.proofs.lemmas.Bool.{lt-ltb, lt-leb, le-leb, false≢true}
+use Rattle.std.proofs.lemmas.Bool.{lt-ltb, lt-leb, le-leb, ne_eqb, false≢true}
 use Rattle.std.proofs.lemmas.List.{length-take-le}
 use Rattle.std.proofs.lemmas.Int.Digits.{digits_value-lt, digits_value_more}
 use Rattle.std.proofs.lemmas.Str.{digit_value_digit}
@@ -14,7 +14,7 @@ use Rattle.std.specs.Option.{option_and_then, is_some}
 use Rattle.std.specs.Str.Parse.{AllDigits, digits_value}
 use Rattle.fast_float.specs.Text.{Parts, scan, digits_of, nearest, with_sign, tens_up, tens_down}
 use Rattle.serde_json.specs.Find.{as_u64}
-use Rattle.serde_json.specs.Read.{number_from, is_integer, float_of}
+use Rattle.serde_json.specs.Read.{number_of, number_from, is_integer, float_of}
 use Rattle.std.specs.Prelude.{◌↔◌, IfOk, IfSome, IsSome}
 use Rattle.hex.specs.Hex.{decode_of, decode_pairs}
 use Rattle.hex.specs.declared.error.FromHexError.{FromHexError}
@@ -23,7 +23,7 @@ use Rattle.tq_json.specs.declared.format.Format.{Format}
 use Rattle.tq_json.specs.declared.format.Format.TheVariants.{One, Two}
 use Rattle.tq_json.specs.Member.{most_content, content_of, content_read, short_enough, ◌>>=◌}
 use Rattle.std.specs.Float.{binary64, float_is_finite}
-use Rattle.serde_json.specs.Data.{negative, float}
+use Rattle.serde_json.specs.Data.{Num, negative, float}
 use lib.Ieee.{fin, inf, nan, round, units, odd, neg, le, lt, eq}
 use lib.Ieee.Order.{round_mono}
 use lib.Pow.{pow-add}
@@ -195,3 +195,21 @@ not-zero n some = grind (arith, some)
 pub no-digits : (ds : List ℕ) → (length ds == 0) ≡ true → digits_value 10 ds ≡ 0
 no-digits [] e = refl
 no-digits (d ∷ ds) e = absurd (true≢false (sym e ∙ not-zero (length (d ∷ ds)) (omega arith)))
+
+-- ---- few digits are a number
+
+by_number : (s : List ℕ) (o : Option Num) (v : ℕ) → number_of s ≡ o → Some v ≡ option_and_then as_u64 o → (n : Num) × (number_of s ≡ Some n) × (Some v ≡ as_u64 n)
+by_number s None v read e = absurd (cc)
+by_number s (Some n) v read e = (n, read, e)
+
+first_digit : (s : List ℕ) → 0 < length s → AllDigits 10 s → 48 ≤ get_or s 0 0
+first_digit [] some all = absurd (omega (arith, some))
+first_digit (x ∷ xs) some all = omega (arith, digit_from_value x all.0)
+
+pub few_found : (s : List ℕ) → 0 < length s → length s ≤ 19 → AllDigits 10 s → (n : Num) × (number_of s ≡ Some n) × (Some (digits_value 10 s) ≡ as_u64 n)
+unfolding number_of
+few_found s some short all =
+    let digit = first_digit s some all in
+    let unsigned : (get_or s 0 0 == 45) ≡ false = ne_eqb (get_or s 0 0) 45 (λ z. omega arith) in
+    let read : number_from false (scan s) ≡ number_of s = rw unsigned in
+    by_number s (number_of s) (digits_value 10 s) refl (few s some short all ∙ ap (option_and_then as_u64) read)

@@ -1,2 +1,4 @@
 pub mod Next
 pub mod Member
+pub mod Plain
+pub mod Readers

@@ -6,10 +6,25 @@ ghost use Rattle.tq_json.specs.Next.{next, Found, IsTextOf, IsNumberOf, IsFlagOf
 use crate::fault::NotRead;
 use crate::number::{is_in_range, whole};
 use crate::passing::{pass_rest, take_token};
-use json::{Reader, Token};
+use crate::reader::Reader;
+use json::Token;
 
 /// Takes the next value: its text, where it is one.
+#[inline(always)]
 pub fn take_text<'a>(reader: &mut Reader<'a>, depth: usize) -> Result<Option<&'a str>, NotRead>
+    ensures ok { IfOk result (Found IsTextOf (next depth reader.old) reader.new) }
+    ensures err { result ≡ Err NotRead.NotJson → next depth reader.old ≡ None }
+    ensures shorter { OnOk result (length reader.new < length reader.old) }
+{
+    if let Some(text) = reader.take_string() {
+        return Ok(Some(text));
+    }
+    other_text(reader, depth)
+}
+
+/// The same of any value.
+#[inline(never)]
+fn other_text<'a>(reader: &mut Reader<'a>, depth: usize) -> Result<Option<&'a str>, NotRead>
     ensures ok { IfOk result (Found IsTextOf (next depth reader.old) reader.new) }
     ensures err { result ≡ Err NotRead.NotJson → next depth reader.old ≡ None }
     ensures shorter { OnOk result (length reader.new < length reader.old) }
@@ -23,7 +38,21 @@ pub fn take_text<'a>(reader: &mut Reader<'a>, depth: usize) -> Result<Option<&'a
 }
 
 /// Takes the next value: the number of 64 bits that it is, where it is one, written without a point, an exponent or a sign.
+#[inline(always)]
 pub fn take_whole(reader: &mut Reader<'_>, depth: usize) -> Result<Option<u64>, NotRead>
+    ensures ok { IfOk result (Found IsNumberOf (next depth reader.old) reader.new) }
+    ensures err { result ≡ Err NotRead.NotJson → next depth reader.old ≡ None }
+    ensures shorter { OnOk result (length reader.new < length reader.old) }
+{
+    if let Some(number) = reader.take_digits() {
+        return Ok(Some(number));
+    }
+    other_whole(reader, depth)
+}
+
+/// The same of any value.
+#[inline(never)]
+fn other_whole(reader: &mut Reader<'_>, depth: usize) -> Result<Option<u64>, NotRead>
     ensures ok { IfOk result (Found IsNumberOf (next depth reader.old) reader.new) }
     ensures err { result ≡ Err NotRead.NotJson → next depth reader.old ≡ None }
     ensures shorter { OnOk result (length reader.new < length reader.old) }

@@ -9,10 +9,28 @@ ghost use Rattle.tq_json.specs.Next.{next, next_items, next_members, Found, HasN
 
 use crate::fault::NotRead;
 use crate::passing::{pass_rest, take_token};
-use json::{Reader, Token};
+use crate::reader::Reader;
+use json::Token;
 
 /// Takes the bracket of an array, where that is the next value; takes any other value whole.
+#[inline(always)]
 pub fn open_array(reader: &mut Reader<'_>, depth: usize) -> Result<bool, NotRead>
+    ensures ok { IfOk result (λ opened. MatchBool opened
+        ((0 < depth)
+        × (next depth reader.old ≡ parse_map array (next_items (depth - 1) reader.new)))
+        (Found (λ d b. as_array d ≡ None) (next depth reader.old) reader.new opened)) }
+    ensures err { result ≡ Err NotRead.NotJson → next depth reader.old ≡ None }
+    ensures shorter { OnOk result (length reader.new < length reader.old) }
+{
+    if depth > 0 && reader.take_begin_array() {
+        return Ok(true);
+    }
+    other_array(reader, depth)
+}
+
+/// The same of any value.
+#[inline(never)]
+fn other_array(reader: &mut Reader<'_>, depth: usize) -> Result<bool, NotRead>
     ensures ok { IfOk result (λ opened. MatchBool opened
         ((0 < depth)
         × (next depth reader.old ≡ parse_map array (next_items (depth - 1) reader.new)))
@@ -32,7 +50,24 @@ pub fn open_array(reader: &mut Reader<'_>, depth: usize) -> Result<bool, NotRead
 }
 
 /// Takes the brace of an object, where that is the next value; takes any other value whole.
+#[inline(always)]
 pub fn open_object(reader: &mut Reader<'_>, depth: usize) -> Result<bool, NotRead>
+    ensures ok { IfOk result (λ opened. MatchBool opened
+        ((0 < depth)
+        × (next depth reader.old ≡ parse_map object (next_members (depth - 1) reader.new)))
+        (Found (λ d b. HasNoNames d) (next depth reader.old) reader.new opened)) }
+    ensures err { result ≡ Err NotRead.NotJson → next depth reader.old ≡ None }
+    ensures shorter { OnOk result (length reader.new < length reader.old) }
+{
+    if depth > 0 && reader.take_begin_object() {
+        return Ok(true);
+    }
+    other_object(reader, depth)
+}
+
+/// The same of any value.
+#[inline(never)]
+fn other_object(reader: &mut Reader<'_>, depth: usize) -> Result<bool, NotRead>
     ensures ok { IfOk result (λ opened. MatchBool opened
         ((0 < depth)
         × (next depth reader.old ≡ parse_map object (next_members (depth - 1) reader.new)))

@@ -1,12 +1,13 @@
 //! Passing over values: nothing is kept, and each number has to be in range.
-ghost use Rattle.std.specs.Prelude.{◌≡◌, ◌≤◌, ◌<◌, ◌∷◌, ℕ, ⊤, length, Some, None, Err, IfOk, OnOk, OnErr};
+ghost use Rattle.std.specs.Prelude.{◌≡◌, ◌≤◌, ◌<◌, ◌∷◌, ℕ, ⊤, length, Some, None, Err, IfOk, OnOk};
 ghost use Rattle.std.specs.Bool.{MatchBool, OnTrue};
 ghost use Rattle.json.specs.Reads.{token_of};
 ghost use Rattle.tq_json.specs.Next.{next, next_items, Found, next_from, tokens_behind, Begins, BeginsNone, Ends, GoesOn, Fails};
 
 use crate::fault::NotRead;
 use crate::number::is_in_range;
-use json::{Reader, Token};
+use crate::reader::Reader;
+use json::Token;
 
 /// The most that are open at once inside of one: a bit for each, and for the one.
 const MOST_INSIDE: usize = 127;
@@ -25,10 +26,11 @@ pub fn pass_over(reader: &mut Reader<'_>, depth: usize) -> Result<(), NotRead>
 #[inline(always)]
 pub(crate) fn take_token<'a>(reader: &mut Reader<'a>) -> Result<Token<'a>, NotRead>
     ensures ok { IfOk result (λ token. reader.old ≡ token_of token ∷ reader.new) }
-    ensures err { OnErr result ((depth : ℕ) → next depth reader.old ≡ None) }
+    ensures err { result ≡ Err NotRead.NotJson
+        → (depth : ℕ) → next depth reader.old ≡ None }
     ensures shorter { OnOk result (length reader.new < length reader.old) }
 {
-    let Some(token) = reader.next() else {
+    let Some(token) = reader.next()? else {
         return Err(NotRead::NotJson);
     };
     Ok(token)

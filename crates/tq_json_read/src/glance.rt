@@ -62,7 +62,7 @@ fn glance(
     text: &str,
     scratch: &mut Scratch,
 ) -> Result<Option<Plan>, NotRead> {
-    let mut reader = Reader::new(text, scratch)?;
+    let mut reader = Reader::new(text, scratch);
     let (format, (levels, (limits, ()))) = take_object(
         alloc,
         plan,

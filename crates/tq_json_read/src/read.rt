@@ -89,9 +89,9 @@ pub(crate) fn whole_text<'a, T: FromReader<'a>>(
         (slots.IsOfText (λ d item. item ≡ T.at plan.now (Some d)) text.now) }
     ensures err { result ≡ Err NotRead.NotJson → read text.now ≡ None }
 {
-    let mut reader = Reader::new(text, scratch)?;
+    let mut reader = Reader::new(text, scratch);
     let item = T::read(alloc, plan, &mut reader, MAX_DEPTH)?;
-    if reader.next().is_some() {
+    if reader.next()?.is_some() {
         return Err(NotRead::NotJson);
     }
     Ok(item)

@@ -18,7 +18,7 @@ returns-in_err-token-clause-err t c refused =
     let whole = tokens_behind c.args.kind c.args.depth c.args.reader.now in
     let r = c.take_end.new.reader in
     let goes = its_value whole c.args.depth l.kinds l.inside l.reader l.invariant.0 r c.in_ok-take_end.field-0 c.in_ok-take_end.ensures.ok c.if-branch.false in
-    value_refused whole c.args.depth l.kinds l.inside l.reader l.invariant.0 r goes (c.in_err-token.ensures.err (c.args.depth - l.inside))
+    value_refused whole c.args.depth l.kinds l.inside l.reader l.invariant.0 r goes (c.in_err-token.ensures.err (grind arith) (c.args.depth - l.inside))
 
 pub overflow_mul-kinds : goal.overflow_mul-kinds
 overflow_mul-kinds t c =

@@ -15,7 +15,7 @@ members-init g c = (no_members, refl, c.empty-slots.ensures ∙ ap (g.S.Slots.of
 pub returns-in_err-name-clause-err : goal.returns-in_err-name-clause-err
 returns-in_err-name-clause-err g c refused =
     let l = c.members in
-    l.invariant.1 ∙ members_no_key_left l.invariant.0 c.args.depth l.reader c.in_err-name.ensures.value
+    l.invariant.1 ∙ members_no_key_left l.invariant.0 c.args.depth l.reader (c.in_err-name.ensures.err (grind arith))
 
 pub returns-in_err-expected-clause-err : goal.returns-in_err-expected-clause-err
 returns-in_err-expected-clause-err g c refused =

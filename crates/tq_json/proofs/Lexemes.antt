@@ -1,0 +1,281 @@
+-- Lexemes one at a time: what a text begins with, and what is left behind it.
+use Rattle.std.proofs.Common.{◌≡◌, ℕ, zero, suc, ◌+◌, ◌-◌, ◌<◌, ◌≤◌, Bool, true, false, cond, ◌==◌, ◌||◌, ◌&&◌, List, [], ◌∷◌, length, take, drop, get_or, length-drop, Some, None, option_and_then, ◌⊎◌, inl, inr, refl, sym, ap, ◌∙◌, subst, arith}
+use Rattle.std.proofs.lemmas.List.{drop-drop, drop_more, get_or-drop}
+use Rattle.std.proofs.lemmas.Bool.{false≢true, true≢false, eqb-true, or_cases, or_parts, not-true, ne_eqb, le-leb}
+use Rattle.std.proofs.lemmas.Str.Parse.{digit_from_value}
+use Rattle.std.specs.List.{prefix_len}
+use Rattle.std.specs.Char.{is_ascii_digit, digit_value}
+use Rattle.std.specs.Str.Parse.{AllDigits, digits_value}
+use Rattle.json.specs.Token.{Token, bad}
+use Rattle.json.specs.Text.{content, plain, after_backslash, prepend}
+use Rattle.json.specs.Word.{head, word, is_operator, is_space, after_minus, after_sign, after_digits, after_whole, after_fraction, after_exponent, after_number, number_before}
+use Rattle.json.specs.Lex.{Lexeme, token, Class, quote, backslash, operator, space, other, class, operator_lexeme, string_token, Mode, between, in_word, in_string, lex_byte, lex}
+use Rattle.json.specs.Align.{is_blank}
+use Rattle.json.specs.Run.{is_plain}
+use Rattle.tq_json.specs.Plain.{IsAtLexeme, IsCounted}
+
+abbrev pub first_lexeme : Class → List ℕ → Lexeme
+first_lexeme quote t = token (string_token (content plain (drop 1 t)))
+first_lexeme backslash t = token bad
+first_lexeme operator t = operator_lexeme (head t)
+first_lexeme space t = token bad
+first_lexeme other t = token (word t)
+
+first_is : (c : Class) (x : ℕ) (xs : List ℕ) (k : Mode → List Lexeme) → is_blank c ≡ false → lex_byte between c x xs k ≡ first_lexeme c (x ∷ xs) ∷ drop 1 (lex_byte between c x xs k)
+first_is quote x xs k h = refl
+first_is backslash x xs k h = refl
+first_is operator x xs k h = refl
+first_is space x xs k h = absurd (true≢false h)
+first_is other x xs k h = refl
+
+pub lex_first : (c : Class) (t : List ℕ) → class (head t) ≡ c → is_blank c ≡ false → lex between t ≡ first_lexeme c t ∷ drop 1 (lex between t)
+unfolding lex
+lex_first c [] e h = absurd (true≢false (ap is_blank e ∙ h))
+lex_first c (x ∷ xs) e h = first_is (class x) x xs (λ n. lex n xs) (ap is_blank e ∙ h) ∙ ap (λ k. first_lexeme k (x ∷ xs) ∷ drop 1 (lex between (x ∷ xs))) e
+
+pub lex-nil : lex between [] ≡ []
+unfolding lex
+lex-nil = refl
+
+pub head-drop : (d : List ℕ) (i : ℕ) → head (drop i d) ≡ get_or d i 32
+head-drop d i = get_or-drop i d 0 32 ∙ ap (λ j. get_or d j 32) (let e : i + 0 ≡ i = omega arith in e)
+
+-- ---- spaces
+
+no_space : (q b o s : Bool) → s ≡ false → is_blank (cond q quote (cond b backslash (cond o operator (cond s space other)))) ≡ false
+no_space true b o s h = refl
+no_space false true o s h = refl
+no_space false false true s h = refl
+no_space false false false true h = h
+no_space false false false false h = refl
+
+-- a byte above the space is none
+pub solid : (x : ℕ) → 32 < x → is_blank (class x) ≡ false
+solid x h =
+    no_space (x == 34) (x == 92) (is_operator x) (is_space x)
+    (λ i. ne_eqb x 32 (λ z. omega arith) i || ne_eqb x 9 (λ z. omega arith) i || ne_eqb x 10 (λ z. omega arith) i || ne_eqb x 13 (λ z. omega arith) i)
+
+pub at_lexeme : (t : List ℕ) → is_space (head t) ≡ false → IsAtLexeme t
+at_lexeme t h blank = absurd (true≢false (sym blank ∙ no_space (head t == 34) (head t == 92) (is_operator (head t)) (is_space (head t)) h))
+
+or_last : (P : ℕ → Type 0) (x c : ℕ) (b : Bool) → P c → (b ≡ true → P x) → (b ≡ true) ⊎ ((x == c) ≡ true) → P x
+or_last P x c b p f (inl e) = f e
+or_last P x c b p f (inr e) = subst P (sym (eqb-true x c e)) p
+
+pub four : (P : ℕ → Type 0) → P 32 → P 9 → P 10 → P 13 → (x : ℕ) → is_space x ≡ true → P x
+four P a b c d x h =
+    or_last P x 13 _ d (λ i. or_last P x 10 _ c (λ j. or_last P x 9 _ b (λ k. subst P (sym (eqb-true x 32 k)) a) (or_cases _ _ j)) (or_cases _ _ i)) (or_cases _ _ h)
+
+space_byte : (x : ℕ) (xs : List ℕ) → is_space x ≡ true → lex between (x ∷ xs) ≡ lex between xs
+unfolding lex
+space_byte x xs h = four (λ y. lex_byte between (class y) y xs (λ n. lex n xs) ≡ lex between xs) refl refl refl refl x h
+
+pub space_over : (d : List ℕ) (i : ℕ) → i < length d → is_space (get_or d i 0) ≡ true → lex between (drop i d) ≡ lex between (drop (i + 1) d)
+space_over d i h e = ap (lex between) (drop_more d i 0 h) ∙ space_byte (get_or d i 0) (drop (i + 1) d) e
+
+pub space_ascii : (x : ℕ) → is_space x ≡ true → x < 128
+space_ascii x h = four (λ y. y < 128) (omega arith) (omega arith) (omega arith) (omega arith) x h
+
+-- ---- marks
+
+abbrev is_operator_class : Class → Bool
+is_operator_class quote = false
+is_operator_class backslash = false
+is_operator_class operator = true
+is_operator_class space = false
+is_operator_class other = false
+
+tested : (q b o s : Bool) → is_operator_class (cond q quote (cond b backslash (cond o operator (cond s space other)))) ≡ true → o ≡ true
+tested true b o s h = absurd (false≢true h)
+tested false true o s h = absurd (false≢true h)
+tested false false true s h = refl
+tested false false false true h = h
+tested false false false false h = h
+
+pub six : (P : ℕ → Type 0) → P 123 → P 125 → P 91 → P 93 → P 58 → P 44 → (x : ℕ) → class x ≡ operator → P x
+six P a b c d e f x k =
+    or_last P x 44 _ f (λ h. or_last P x 58 _ e (λ i. or_last P x 93 _ d (λ j. or_last P x 91 _ c (λ l. or_last P x 125 _ b (λ m. subst P (sym (eqb-true x 123 m)) a)
+    (or_cases _ _ l)) (or_cases _ _ j)) (or_cases _ _ i)) (or_cases _ _ h)) (or_cases _ _ (tested (x == 34) (x == 92) (is_operator x) (is_space x) (ap is_operator_class k)))
+
+pub mark_over : (t : List ℕ) → class (head t) ≡ operator → lex between (drop 1 t) ≡ drop 1 (lex between t)
+unfolding lex
+mark_over [] e = absurd (false≢true (ap is_operator_class e))
+mark_over (x ∷ xs) e = sym (ap (λ c. drop 1 (lex_byte between c x xs (λ n. lex n xs))) e)
+
+pub mark_some : (t : List ℕ) → class (head t) ≡ operator → 0 < length t
+mark_some [] e = absurd (false≢true (ap is_operator_class e))
+mark_some (x ∷ xs) e = omega arith
+
+pub mark_ascii : (t : List ℕ) → class (head t) ≡ operator → get_or t 0 0 < 128
+mark_ascii [] e = omega arith
+mark_ascii (x ∷ xs) e = six (λ y. y < 128) (omega arith) (omega arith) (omega arith) (omega arith) (omega arith) (omega arith) x e
+
+-- ---- strings without an escape
+
+pub quote_over : (t : List ℕ) → head t ≡ 34 → drop 1 (lex between t) ≡ lex in_string (drop 1 t)
+unfolding lex
+quote_over [] e = absurd (omega (arith, e))
+quote_over (x ∷ xs) e = ap (λ y. drop 1 (lex_byte between (class y) x xs (λ n. lex n xs))) e
+
+in_plain : (o s : Bool) (x : ℕ) (xs : List ℕ) (k : Mode → List Lexeme) → lex_byte in_string (cond o operator (cond s space other)) x xs k ≡ k in_string
+in_plain true s x xs k = refl
+in_plain false true x xs k = refl
+in_plain false false x xs k = refl
+
+abbrev Closes : List ℕ → ℕ → Type 0
+Closes xs n = (content plain xs ≡ Some (take n xs)) × (lex in_string xs ≡ lex between (drop (n + 1) xs))
+
+closes_byte : (p : Bool) (x n : ℕ) (xs : List ℕ) → p ≡ is_plain x → (get_or xs n 32 ≡ 34 → Closes xs n) → get_or (x ∷ xs) (cond p (1 + n) 0) 32 ≡ 34 → Closes (x ∷ xs) (cond p (1 + n) 0)
+unfolding lex content
+closes_byte false x n xs e ih h = (ap (λ y. content plain (y ∷ xs)) h, ap (λ y. lex_byte in_string (class y) y xs (λ m. lex m xs)) h)
+closes_byte true x n xs e ih h =
+    let next : 1 + n ≡ suc n = omega arith in
+    let none = or_parts ((x == 34) || (x == 92)) _ (not-true _ (sym e)) in
+    let tests = or_parts (x == 34) _ none.0 in
+    let later = ih (ap (λ k. get_or (x ∷ xs) k 32) (sym next) ∙ h) in
+    let more : suc n + 1 ≡ suc (n + 1) = omega arith in (
+      (λ i. cond (tests.0 i) (Some []) (cond (tests.1 i) (content after_backslash xs) (cond (none.1 i) None (prepend (x ∷ []) (later.0 i))))) ∙ ap (λ k. Some (take k (x ∷ xs))) (sym next),
+      (λ i. lex_byte in_string (cond (tests.0 i) quote (cond (tests.1 i) backslash (cond (is_operator x) operator (cond (is_space x) space other)))) x xs (λ m. lex m xs))
+          ∙ in_plain (is_operator x) (is_space x) x xs (λ m. lex m xs) ∙ later.1 ∙ ap (λ k. lex between (drop k (x ∷ xs))) (sym more ∙ ap (λ k. k + 1) (sym next)),
+    )
+
+-- plain bytes up to a quote are the content of a string, which ends there
+pub closes : (xs : List ℕ) → get_or xs (prefix_len is_plain xs) 32 ≡ 34 → Closes xs (prefix_len is_plain xs)
+closes [] h = absurd (omega (arith, h))
+closes (x ∷ xs) h = closes_byte (is_plain x) x (prefix_len is_plain xs) xs refl (closes xs) h
+
+pub quoted : (d : List ℕ) (stop : ℕ) → head d ≡ 34 → stop ≡ 1 + prefix_len is_plain (drop 1 d) → get_or d stop 32 ≡ 34
+    → (content plain (drop 1 d) ≡ Some (take (stop - 1) (drop 1 d))) × (lex between (drop (stop + 1) d) ≡ drop 1 (lex between d))
+quoted d stop first is closing =
+    let n = prefix_len is_plain (drop 1 d) in
+    let length_is : stop - 1 ≡ n = omega (arith, is) in
+    let both = closes (drop 1 d) (get_or-drop 1 d n 32 ∙ ap (λ k. get_or d k 32) (sym is) ∙ closing) in
+    let past : 1 + (n + 1) ≡ stop + 1 = omega (arith, is) in
+    (both.0 ∙ ap (λ k. Some (take k (drop 1 d))) (sym length_is), sym (quote_over d first ∙ both.1 ∙ ap (lex between) (drop-drop (n + 1) 1 d ∙ ap (λ k. drop k d) past)))
+
+-- ---- digits
+
+pub digit_range : (x : ℕ) → digit_value x < 10 → (48 ≤ x) × (x ≤ 57)
+digit_range x h = let r = digit_from_value x h in (omega (arith, r), omega (arith, r))
+
+is_digit : (x : ℕ) → digit_value x < 10 → is_ascii_digit x ≡ true
+is_digit x h = let r = digit_range x h in (λ i. le-leb 48 x r.0 i && le-leb x 57 r.1 i)
+
+digit_class : (x : ℕ) → digit_value x < 10 → class x ≡ other
+digit_class x h =
+    let r = digit_range x h in
+    let low = r.0 in
+    let high = r.1 in
+    (λ i. cond (ne_eqb x 34 (λ z. omega arith) i) quote (cond (ne_eqb x 92 (λ z. omega arith) i) backslash
+    (cond (ne_eqb x 123 (λ z. omega arith) i || ne_eqb x 125 (λ z. omega arith) i || ne_eqb x 91 (λ z. omega arith) i || ne_eqb x 93 (λ z. omega arith) i || ne_eqb x 58 (λ z. omega arith) i || ne_eqb x 44 (λ z. omega arith) i) operator
+    (cond (ne_eqb x 32 (λ z. omega arith) i || ne_eqb x 9 (λ z. omega arith) i || ne_eqb x 10 (λ z. omega arith) i || ne_eqb x 13 (λ z. omega arith) i) space other))))
+
+pub digits_over : (k : ℕ) (t : List ℕ) → k ≤ length t → AllDigits 10 (take k t) → lex in_word t ≡ lex in_word (drop k t)
+unfolding lex
+digits_over zero t h all = refl
+digits_over (suc k) [] h all = absurd (omega (arith, h))
+digits_over (suc k) (x ∷ xs) h all = ap (λ c. lex_byte in_word c x xs (λ n. lex n xs)) (digit_class x all.0) ∙ digits_over k xs (omega arith) all.1
+
+digits_run : (k : ℕ) (t : List ℕ) → k ≤ length t → AllDigits 10 (take k t) → is_ascii_digit (get_or t k 32) ≡ false → prefix_len is_ascii_digit t ≡ k
+digits_run zero [] h all e = refl
+digits_run zero (x ∷ xs) h all e = ap (λ b. cond b (1 + prefix_len is_ascii_digit xs) 0) e
+digits_run (suc k) [] h all e = absurd (omega (arith, h))
+digits_run (suc k) (x ∷ xs) h all e =
+    let next : 1 + k ≡ suc k = omega arith in
+    ap (λ b. cond b (1 + prefix_len is_ascii_digit xs) 0) (is_digit x all.0) ∙ ap (λ n. 1 + n) (digits_run k xs (omega arith) all.1 e) ∙ next
+
+abbrev pub ends_value : ℕ → Bool
+ends_value y = (y == 44) || (y == 125) || (y == 93)
+
+three : (P : ℕ → Type 0) → P 44 → P 125 → P 93 → (y : ℕ) → ends_value y ≡ true → P y
+three P a b c y h = or_last P y 93 _ c (λ i. or_last P y 125 _ b (λ j. subst P (sym (eqb-true y 44 j)) a) (or_cases _ _ i)) (or_cases _ _ h)
+
+record Ending (y : ℕ) : Type 0 where
+  pub digit : is_ascii_digit y ≡ false
+  pub point : (y == 46) ≡ false
+  pub power : ((y == 101) || (y == 69)) ≡ false
+  pub ends : (is_operator y || is_space y) ≡ true
+  pub mark : class y ≡ operator
+
+ending_44 : Ending 44
+ending_44 = record { digit = refl; point = refl; power = refl; ends = refl; mark = refl }
+
+ending_125 : Ending 125
+ending_125 = record { digit = refl; point = refl; power = refl; ends = refl; mark = refl }
+
+ending_93 : Ending 93
+ending_93 = record { digit = refl; point = refl; power = refl; ends = refl; mark = refl }
+
+ending : (y : ℕ) → ends_value y ≡ true → Ending y
+ending y h = three Ending ending_44 ending_125 ending_93 y h
+
+third : {A : Type 0} (a b c : Bool) (x y z w : A) → a ≡ false → b ≡ false → c ≡ false → cond a x (cond b y (cond c z w)) ≡ w
+third a b c x y z w e f g = λ i. cond (e i) x (cond (f i) y (cond (g i) z w))
+
+no_word : (t : List ℕ) → 48 ≤ head t → head t ≤ 57 → word t ≡ number_before t (after_number t)
+unfolding word
+no_word t low high = third (head t == 116) (head t == 102) (head t == 110) _ _ _ _ (ne_eqb (head t) 116 (λ z. omega arith)) (ne_eqb (head t) 102 (λ z. omega arith)) (ne_eqb (head t) 110 (λ z. omega arith))
+
+whole_by : (z : Bool) (k : ℕ) (t : List ℕ) → (z ≡ true → k ≡ 1) → after_digits t ≡ Some (drop k t) → cond z (Some (drop 1 t)) (after_digits t) ≡ Some (drop k t)
+whole_by true k t one e = ap (λ n. Some (drop n t)) (sym (one refl))
+whole_by false k t one e = e
+
+digits_taken : (k n : ℕ) (t : List ℕ) → 0 < k → n ≡ k → cond (n == 0) None (Some (drop n t)) ≡ Some (drop k t)
+digits_taken k n t some e = ap (λ m. cond (m == 0) None (Some (drop m t))) e ∙ ap (λ b. cond b None (Some (drop k t))) (ne_eqb k 0 (λ z. omega arith))
+
+number_is : (t : List ℕ) (k : ℕ) → 0 < k → 48 ≤ head t → prefix_len is_ascii_digit t ≡ k → (head t ≡ 48 → k ≡ 1) → Ending (head (drop k t)) → after_number t ≡ Some (drop k t)
+unfolding after_number
+number_is t k some low run one end =
+    let minus : after_minus t ≡ t = ap (λ b. cond b (drop 1 t) t) (ne_eqb (head t) 45 (λ z. omega arith)) in
+    let whole : after_whole t ≡ Some (drop k t) = whole_by (head t == 48) k t (λ e. one (eqb-true (head t) 48 e)) (digits_taken k (prefix_len is_ascii_digit t) t some run) in
+    let r = drop k t in
+    let fraction : after_fraction r ≡ Some r = ap (λ b. cond b (after_digits (drop 1 r)) (Some r)) end.point in
+    let power : after_exponent r ≡ Some r = ap (λ b. cond b (after_digits (after_sign (drop 1 r))) (Some r)) end.power in
+    ap (λ u. option_and_then after_exponent (option_and_then after_fraction (after_whole u))) minus
+    ∙ ap (λ o. option_and_then after_exponent (option_and_then after_fraction o)) whole ∙ ap (option_and_then after_exponent) fraction ∙ power
+
+counted_word : (t : List ℕ) (k : ℕ) → 0 < k → k ≤ length t → AllDigits 10 (take k t) → (48 ≤ head t) × (head t ≤ 57) → (head t ≡ 48 → k ≡ 1) → Ending (head (drop k t)) → is_ascii_digit (get_or t k 32) ≡ false → word t ≡ Token.number (take k t)
+counted_word t k some within all range one end stop =
+    let r = drop k t in
+    let run = digits_run k t within all stop in
+    let long : length t - length r ≡ k = omega (arith, length-drop k t, within) in
+    no_word t range.0 range.1 ∙ ap (number_before t) (number_is t k some range.0 run one end)
+    ∙ ap (λ b. cond b (Token.number (take (length t - length r) t)) bad) end.ends ∙ ap (λ n. Token.number (take n t)) long
+
+word_to_mark : (t : List ℕ) → class (head t) ≡ operator → lex in_word t ≡ lex between t
+unfolding lex
+word_to_mark [] e = refl
+word_to_mark (x ∷ xs) e = ap (λ c. lex_byte in_word c x xs (λ n. lex n xs)) e ∙ sym (ap (λ c. lex_byte between c x xs (λ n. lex n xs)) e)
+
+word_first : (t : List ℕ) → class (head t) ≡ other → lex between t ≡ token (word t) ∷ lex in_word t
+unfolding lex
+word_first [] e = absurd (let f : is_blank space ≡ is_blank other = ap is_blank e in true≢false f)
+word_first (x ∷ xs) e = ap (λ c. lex_byte between c x xs (λ n. lex n xs)) e ∙ ap (λ ls. token (word (x ∷ xs)) ∷ ls) (sym (ap (λ c. lex_byte in_word c x xs (λ n. lex n xs)) e))
+
+head_digit : (t : List ℕ) (k : ℕ) → 0 < k → k ≤ length t → AllDigits 10 (take k t) → digit_value (head t) < 10
+head_digit [] k some within all = absurd (omega (arith, some, within))
+head_digit (x ∷ xs) zero some within all = absurd (omega (arith, some))
+head_digit (x ∷ xs) (suc k) some within all = all.0
+
+last_digit : (k : ℕ) (t : List ℕ) → k < length t → AllDigits 10 (take (suc k) t) → get_or t k 0 < 128
+last_digit k [] h all = omega arith
+last_digit zero (x ∷ xs) h all = omega (arith, (digit_range x all.0).1)
+last_digit (suc k) (x ∷ xs) h all = last_digit k xs (omega (arith, h)) all.1
+
+pub counted : (t : List ℕ) (n k : ℕ) → 0 < k → k < 19 → k ≤ length t → AllDigits 10 (take k t) → n ≡ digits_value 10 (take k t) → (head t ≡ 48 → k ≡ 1) → ends_value (get_or t k 32) ≡ true → IsCounted t n k
+counted t n k some few within all value one e =
+    let end = ending (get_or t k 32) e in
+    let behind : Ending (head (drop k t)) = subst Ending (sym (head-drop t k)) end in
+    let digit = head_digit t k some within all in
+    let before : suc (k - 1) ≡ k = omega (arith, some) in
+    record {
+      some = some;
+      few = few;
+      within = within;
+      digits = all;
+      value = value;
+      same = word_first t (digit_class (head t) digit) ∙ ap (λ w. token w ∷ lex in_word t) (counted_word t k some within all (digit_range (head t) digit) one behind end.digit)
+          ∙ ap (λ ls. token (Token.number (take k t)) ∷ ls) (digits_over k t within all ∙ word_to_mark (drop k t) behind.mark);
+      passed = λ blank. absurd (false≢true (ap is_blank (sym behind.mark) ∙ blank));
+      last = last_digit (k - 1) t (omega (arith, some, within)) (subst (λ j. AllDigits 10 (take j t)) (sym before) all);
+    }
