@@ -1,9 +1,9 @@
 -- Lexemes one at a time: what a text begins with, and what is left behind it.
 use Rattle.std.proofs.Common.{◌≡◌, ℕ, zero, suc, ◌+◌, ◌-◌, ◌<◌, ◌≤◌, Bool, true, false, cond, ◌==◌, ◌||◌, ◌&&◌, List, [], ◌∷◌, length, take, drop, get_or, length-drop, Some, None, option_and_then, ◌⊎◌, inl, inr, refl, sym, ap, ◌∙◌, subst, arith}
-use Rattle.std.proofs.lemmas.List.{drop-drop, drop_more, get_or-drop}
-use Rattle.std.proofs.lemmas.Bool.{false≢true, true≢false, eqb-true, or_cases, or_parts, not-true, ne_eqb, le-leb}
+use Rattle.std.proofs.lemmas.List.{drop-drop, drop_more, get_or-drop, get_or_default}
+use Rattle.std.proofs.lemmas.Bool.{false≢true, true≢false, eqb-true, or_cases, or_parts, and_parts, not-true, ne_eqb, le-leb}
 use Rattle.std.proofs.lemmas.Str.Parse.{digit_from_value}
-use Rattle.std.specs.List.{prefix_len}
+use Rattle.std.specs.List.{prefix_len, list_all}
 use Rattle.std.specs.Char.{is_ascii_digit, digit_value}
 use Rattle.std.specs.Str.Parse.{AllDigits, digits_value}
 use Rattle.json.specs.Token.{Token, bad}
@@ -12,7 +12,7 @@ use Rattle.json.specs.Word.{head, word, is_operator, is_space, after_minus, afte
 use Rattle.json.specs.Lex.{Lexeme, token, Class, quote, backslash, operator, space, other, class, operator_lexeme, string_token, Mode, between, in_word, in_string, lex_byte, lex}
 use Rattle.json.specs.Align.{is_blank}
 use Rattle.json.specs.Run.{is_plain}
-use Rattle.tq_json.specs.Plain.{IsAtLexeme, IsCounted}
+use Rattle.tq_json.specs.Plain.{IsAtLexeme, IsCounted, IsQuoted, IsKeyFirst}
 
 abbrev pub first_lexeme : Class → List ℕ → Lexeme
 first_lexeme quote t = token (string_token (content plain (drop 1 t)))
@@ -279,3 +279,45 @@ counted t n k some few within all value one e =
       passed = λ blank. absurd (false≢true (ap is_blank (sym behind.mark) ∙ blank));
       last = last_digit (k - 1) t (omega (arith, some, within)) (subst (λ j. AllDigits 10 (take j t)) (sym before) all);
     }
+
+-- ---- keys of a name
+
+plain_run : (name xs : List ℕ) → length name ≤ length xs → take (length name) xs ≡ name → list_all is_plain name ≡ true → is_plain (get_or xs (length name) 32) ≡ false → prefix_len is_plain xs ≡ length name
+plain_run [] [] within e all stop = refl
+plain_run [] (x ∷ xs) within e all stop = ap (λ b. cond b (1 + prefix_len is_plain xs) 0) stop
+plain_run (n ∷ ns) [] within e all stop = absurd (omega (arith, within))
+plain_run (n ∷ ns) (x ∷ xs) within e all stop =
+    let parts = and_parts _ _ all in
+    let here : x ≡ n = ap (λ l. get_or l 0 0) e in
+    let next : 1 + length ns ≡ suc (length ns) = omega arith in
+    ap (λ b. cond b (1 + prefix_len is_plain xs) 0) (ap is_plain here ∙ parts.0)
+    ∙ ap (λ n. 1 + n) (plain_run ns xs (omega (arith, within)) (ap (drop 1) e) parts.1 stop) ∙ next
+
+pub key_quoted : (name t : List ℕ) → IsKeyFirst name t → list_all is_plain name ≡ true → IsQuoted t name (drop (length name + 2) t)
+key_quoted name t it plain_name =
+    let count = length name in
+    let first : head t ≡ 34 = get_or_default t 0 32 0 (omega (arith, it.0)) ∙ it.1 in
+    let closing : get_or t (count + 1) 32 ≡ 34 = get_or_default t (count + 1) 32 0 (omega (arith, it.0)) ∙ it.3 in
+    let one : 1 + count ≡ count + 1 = omega arith in
+    let stop : get_or (drop 1 t) count 32 ≡ 34 = get_or-drop 1 t count 32 ∙ ap (λ k. get_or t k 32) one ∙ closing in
+    let run : prefix_len is_plain (drop 1 t) ≡ count = plain_run name (drop 1 t) (omega (arith, length-drop 1 t, it.0)) it.2 plain_name (ap is_plain stop) in
+    let is : count + 1 ≡ 1 + prefix_len is_plain (drop 1 t) = omega (arith, run) in
+    let q = quoted t (count + 1) first is closing in
+    let less : count + 1 - 1 ≡ count = omega arith in
+    let past : count + 1 + 1 ≡ count + 2 = omega arith in
+    let colon : get_or t (count + 2) 32 ≡ 58 = get_or_default t (count + 2) 32 0 (omega (arith, it.0)) ∙ it.4 in
+    let mark : head (drop (count + 2) t) ≡ 58 = head-drop t (count + 2) ∙ colon in
+    record {
+      begins = first;
+      content = q.0 ∙ ap (λ k. Some (take k (drop 1 t))) less ∙ ap Some it.2;
+      same = ap (λ k. lex between (drop k t)) (sym past) ∙ q.1;
+      passed = λ blank. absurd (false≢true (sym (ap (λ x. is_blank (class x)) mark) ∙ blank));
+    }
+
+pub colon_behind : (name t : List ℕ) → IsKeyFirst name t → head (drop (length name + 2) t) ≡ 58
+colon_behind name t it = head-drop t (length name + 2) ∙ get_or_default t (length name + 2) 32 0 (omega (arith, it.0)) ∙ it.4
+
+pub behind_key : (name t : List ℕ) → IsKeyFirst name t → lex between (drop (length name + 3) t) ≡ drop 1 (lex between (drop (length name + 2) t))
+behind_key name t it =
+    let e : length name + 2 + 1 ≡ length name + 3 = omega arith in
+    ap (lex between) (ap (λ k. drop k t) (sym e) ∙ sym (drop-drop 1 (length name + 2) t)) ∙ mark_over (drop (length name + 2) t) (ap class (colon_behind name t it))

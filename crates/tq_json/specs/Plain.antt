@@ -1,5 +1,7 @@
 -- The model of the reader, and of the lexemes that it reads itself: those of a text as the product writes it.
-use Rattle.std.specs.Prelude.{◌≡◌, ◌≢◌, ◌<◌, ◌≤◌, ◌-◌, ℕ, List, [], ◌∷◌, length, take, drop, get_or, Bool, true, false, Option, Some, None, IsTrue, ⊤}
+use Rattle.std.specs.Prelude.{◌≡◌, ◌+◌, ◌≢◌, ◌<◌, ◌≤◌, ◌-◌, ℕ, List, [], ◌∷◌, length, take, drop, get_or, Bool, true, false, Option, Some, None, IsTrue, ⊤}
+use Rattle.std.specs.List.{list_all}
+use Rattle.json.specs.Run.{is_plain}
 use Rattle.std.specs.Str.Parse.{AllDigits, digits_value}
 use Rattle.json.specs.Token.{Token, bad}
 use Rattle.json.specs.Text.{content, plain}
@@ -32,6 +34,15 @@ pub record IsCounted (text : List ℕ) (number count : ℕ) : Type 0 where
   pub same : lex between text ≡ token (Token.number (take count text)) ∷ lex between (drop count text)
   pub passed : IsAtLexeme (drop count text)
   pub last : get_or text (count - 1) 0 < 128
+
+-- the text begins with a key of that name, and with its colon
+abbrev pub IsKeyFirst : List ℕ → List ℕ → Type 0
+IsKeyFirst name text =
+    (length name + 3 ≤ length text) × (get_or text 0 0 ≡ 34) × (take (length name) (drop 1 text) ≡ name) × (get_or text (length name + 1) 0 ≡ 34) × (get_or text (length name + 2) 0 ≡ 58)
+
+-- each byte of the name means itself in a string
+abbrev pub is_plain_name : List ℕ → Bool
+is_plain_name name = list_all is_plain name
 
 -- ---- places
 

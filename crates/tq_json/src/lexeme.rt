@@ -2,12 +2,13 @@
 //!
 //! A text is kept from its next lexeme on: it begins with no space.
 
-ghost use Rattle.std.specs.Prelude.{◌≡◌, ◌||◌, ◌==◌, drop, IfSome};
+ghost use Rattle.std.specs.Prelude.{◌≡◌, ◌||◌, ◌==◌, drop, IfSome, IsTrue};
 ghost use Rattle.json.specs.Word.{head, is_space};
 ghost use Rattle.json.specs.Lex.{between, lex, class, operator};
-ghost use Rattle.tq_json.specs.Plain.{IsAtLexeme, IsQuoted, IsCounted};
+ghost use Rattle.tq_json.specs.Plain.{IsAtLexeme, IsQuoted, IsCounted, IsKeyFirst};
 
 use crate::run::{byte_at, plain_end};
+use crate::word::are_same;
 
 /// The text from its next lexeme on.
 #[inline(always)]
@@ -75,6 +76,30 @@ pub(crate) fn string_first(text: &str) -> Option<Quoted<'_>>
     let word = &text[1..stop];
     let rest = after_spaces(&text[stop + 1..]);
     Some(Quoted { word, rest })
+}
+
+/// Whether the text begins with a key of that name, and with its colon.
+#[inline(always)]
+pub(crate) fn begins_with_key(text: &[u8], name: &[u8]) -> bool
+    ensures { IsTrue result → IsKeyFirst name.now text.now }
+{
+    if text.len() < 3 {
+        return false;
+    }
+    let count = name.len();
+    if text.len() - 3 < count {
+        return false;
+    }
+    if !are_same(&text[1..count + 1], name) {
+        return false;
+    }
+    if text[0] != b'"' {
+        return false;
+    }
+    if text[count + 1] != b'"' {
+        return false;
+    }
+    text[count + 2] == b':'
 }
 
 /// A number, and how many digits it has.

@@ -10,10 +10,10 @@ ghost use Rattle.json.specs.Lex.{after_value, between, lex, punctuate};
 ghost use Rattle.json.specs.Lex as grammar;
 ghost use Rattle.json.specs.Json.{after_end_array, read_key};
 ghost use Rattle.json.specs.Reads.{Yields};
-ghost use Rattle.tq_json.specs.Plain.{IsAtLexeme, IsNumberFirst, NotBeforeComma, Foresees, begins_at, closes_at, goes_at, tokens_at};
+ghost use Rattle.tq_json.specs.Plain.{IsAtLexeme, IsNumberFirst, NotBeforeComma, Foresees, begins_at, closes_at, goes_at, is_plain_name, tokens_at};
 
 use crate::fault::NotRead;
-use crate::lexeme::{after_spaces, behind, number_first, string_first};
+use crate::lexeme::{after_spaces, begins_with_key, behind, number_first, string_first};
 use crate::run::byte_at;
 use json::{Scratch, Token};
 use std::alloc::AllocError;
@@ -172,6 +172,25 @@ impl<'a> Reader<'a> {
         Some(found.word)
     }
 
+    /// Takes the key that is next, where it is this name as the product writes it: a plain one.
+    #[inline(always)]
+    pub fn take_key_named(&mut self, name: &str) -> bool
+        ensures { MatchBool result
+            (IsTrue (is_plain_name name.now) → self.old ≡ tokens.key name.now ∷ self.new)
+            (self.new ≡ self.old) }
+    {
+        if !self.place.may_begin() {
+            return false;
+        }
+        let text = self.text;
+        if !begins_with_key(text.as_bytes(), name.as_bytes()) {
+            return false;
+        }
+        self.text = after_spaces(&text[name.len() + 3..]);
+        self.place = Place::Fresh;
+        true
+    }
+
     /// Takes the string that is next: none, where it is another token or not as the product writes it.
     #[inline(always)]
     pub(crate) fn take_string(&mut self) -> Option<&'a str>
@@ -244,7 +263,7 @@ impl<'a> Reader<'a> {
 
     /// Takes the brace that closes an object, where that is next.
     #[inline(always)]
-    fn take_end_object(&mut self) -> bool
+    pub fn take_end_object(&mut self) -> bool
         ensures { MatchBool result (self.old ≡ tokens.end_object ∷ self.new)
             (self.new ≡ self.old) }
     {

@@ -9,8 +9,14 @@ ghost use Rattle.tq_json.specs.Next.{IsTextOfBytes};
 pub fn is_text(word: &str, text: &str) -> bool
     ensures { result ≡ bytes_eq word.now text.now }
 {
-    let bytes = word.as_bytes();
-    let wanted = text.as_bytes();
+    are_same(word.as_bytes(), text.as_bytes())
+}
+
+/// Whether the bytes are those that are wanted.
+#[inline(always)]
+pub(crate) fn are_same(bytes: &[u8], wanted: &[u8]) -> bool
+    ensures { result ≡ bytes_eq bytes.now wanted.now }
+{
     if bytes.len() != wanted.len() {
         return false;
     }

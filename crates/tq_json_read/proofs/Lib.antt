@@ -3,3 +3,4 @@ pub mod Held
 pub mod Formats
 mod Rows
 mod Planned
+mod Ordered

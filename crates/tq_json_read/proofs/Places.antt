@@ -119,7 +119,7 @@ pub length-texts : (names : List (Bor (List ℕ))) → length (texts names) ≡ 
 length-texts [] = refl
 length-texts (n ∷ ns) = ap suc (length-texts ns)
 
-text_in : (names : List (Bor (List ℕ))) (place : ℕ) (other : Bor (List ℕ)) → place < length names → get_or (texts names) place [] ≡ (get_or names place other).now
+pub text_in : (names : List (Bor (List ℕ))) (place : ℕ) (other : Bor (List ℕ)) → place < length names → get_or (texts names) place [] ≡ (get_or names place other).now
 text_in [] place other h = absurd (omega (arith, h))
 text_in (n ∷ ns) zero other h = refl
 text_in (n ∷ ns) (suc p) other h = text_in ns p other (omega (arith, h))

@@ -4,3 +4,4 @@ pub mod Desks
 pub mod Views
 pub mod Frame
 pub mod Slots
+pub mod Ordered

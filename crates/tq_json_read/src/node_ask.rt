@@ -81,10 +81,9 @@ impl<'a> FromReader<'a> for Shared<WorkAsk> {
     }
 }
 
-/// Those that most asks have first.
 const NODE_ASK_NAMES: &[&str] = &[
-    "cite", "file", "is", "mode", "txn", "verdict", "writes", "content", "from", "version",
-    "after", "ask",
+    "after", "ask", "cite", "content", "file", "from", "is", "mode", "txn", "verdict", "version",
+    "writes",
 ];
 
 impl<'a> FromReader<'a> for NodeAsk {
@@ -93,14 +92,14 @@ impl<'a> FromReader<'a> for NodeAsk {
     ghost none = { λ plan. refl };
 
     fn read(alloc: Global, plan: &Plan, reader: &mut Reader<'a>, depth: usize) -> Taken<NodeAsk> {
-        let (cite, (file, (kind, (mode, (txn, (verdict, (writes, rest))))))) = take_object(
+        let (after, (inside, (cite, (content, (file, (from, rest)))))) = take_object(
             alloc,
             plan,
             NODE_ASK_NAMES,
             reader,
             depth,
         )?;
-        let (content, (from, (version, (after, (inside, ()))))) = rest;
+        let (kind, (mode, (txn, (verdict, (version, (writes, ())))))) = rest;
         let members = WorkMembers {
             cite,
             content,

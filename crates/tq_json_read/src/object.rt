@@ -4,7 +4,10 @@
 ghost use Rattle.std.specs.Prelude.{◌≡◌, ◌&&◌, ◌<◌, ◌≤◌, false, drop, length, nat_le, None, Err, IfOk, OnOk, IsTrue, MatchOption};
 ghost use Rattle.serde_json.specs.Find.{get_member};
 ghost use Rattle.tq_json.specs.Next.{next, next_members, Found};
+ghost use Rattle.tq_json.specs.Plain.{is_plain_name};
 ghost use Rattle.tq_json_read.specs.Slots.{Names, names_of, with, slots_for, texts, IsNameAt, is_among, are_distinct};
+ghost use Rattle.tq_json_read.specs.Ordered.{IsNameTaken, are_plain, members_behind};
+ghost use Rattle.serde_json.specs.Data.{Members};
 ghost use Rattle.std.specs.Str.{bytes_eq};
 
 use crate::entry::Plan;
@@ -14,9 +17,11 @@ use tq_json::{NotRead, Reader, is_text, open_object, pass_over};
 
 /// Room for what stands at names, one slot for each name.
 pub(crate) trait Slots<'a>: Sized + Drop {
-    ghost use Rattle.std.specs.Prelude.{◌≡◌, ◌<◌, ◌≤◌, false, drop, length, None, Err, IfOk, OnOk, MatchOption};
+    ghost use Rattle.std.specs.Prelude.{◌≡◌, ◌<◌, ◌≤◌, false, drop, length, None, Err, IfOk, OnOk, IsTrue, MatchOption};
     ghost use Rattle.tq_json_read.specs.declared.entry.Plan.{Plan};
-    ghost use Rattle.tq_json_read.specs.Slots.{Slots as Values, with_slot, texts, is_among, IsNameAt};
+    ghost use Rattle.tq_json_read.specs.Slots.{Slots as Values, with_slot, texts, is_among, are_distinct, IsNameAt};
+    ghost use Rattle.tq_json_read.specs.Ordered.{HasNone, IsTakenInOrder, are_plain, members_behind};
+    ghost use Rattle.serde_json.specs.Data.{Members};
     ghost use Rattle.tq_json.specs.Next.{next, Found};
 
     /// What they are, by a plan, of the values in them.
@@ -30,6 +35,24 @@ pub(crate) trait Slots<'a>: Sized + Drop {
         ensures { MatchOption result
             (first ≤ slot → is_among name.now (drop slot (texts names.now)) ≡ false)
             (IsNameAt name.now (texts names.now)) };
+
+    /// Takes the members that come next in the order of the names, from a slot on.
+    fn take_in_order(
+        alloc: Global,
+        plan: &Plan,
+        names: &[&str],
+        slot: usize,
+        reader: &mut Reader<'a>,
+        depth: usize,
+    ) -> Result<Self, NotRead>
+        requires distinct { IsTrue (are_distinct (drop slot (texts names.now))) }
+        requires plain { IsTrue (are_plain (drop slot (texts names.now))) }
+        ensures ok { (old : Members) → HasNone (drop slot (texts names.now)) old → IfOk result
+            (λ slots. IsTakenInOrder (of plan.now) (drop slot (texts names.now)) old
+            (members_behind old depth reader.old) depth slots reader.new) }
+        ensures err { (old : Members) → HasNone (drop slot (texts names.now)) old
+            → result ≡ Err NotRead.NotJson → members_behind old depth reader.old ≡ None }
+        ensures shorter { OnOk result (length reader.new ≤ length reader.old) };
 
     /// Takes the next value into the slot at that place, and passes it over where there is none.
     fn put(
@@ -58,6 +81,18 @@ impl<'a> Slots<'a> for () {
             return None;
         }
         place_from(names, name, slot)
+    }
+
+    #[inline(always)]
+    fn take_in_order(
+        _alloc: Global,
+        _plan: &Plan,
+        _names: &[&str],
+        _slot: usize,
+        _reader: &mut Reader<'a>,
+        _depth: usize,
+    ) -> Result<(), NotRead> {
+        Ok(())
     }
 
     fn put(
@@ -93,6 +128,23 @@ impl<'a, T: FromReader<'a>, R: Slots<'a>> Slots<'a> for (Option<T>, R) {
         R::first_place(names, slot + 1, first, name)
     }
 
+    #[inline(always)]
+    fn take_in_order(
+        alloc: Global,
+        plan: &Plan,
+        names: &[&str],
+        slot: usize,
+        reader: &mut Reader<'a>,
+        depth: usize,
+    ) -> Result<(Option<T>, R), NotRead> {
+        if slot >= names.len() {
+            return Ok((None, R::empty(plan)));
+        }
+        let first = take_named(alloc, plan, names[slot], reader, depth)?;
+        let rest = R::take_in_order(alloc, plan, names, slot + 1, reader, depth)?;
+        Ok((first, rest))
+    }
+
     fn put(
         &mut self,
         alloc: Global,
@@ -118,7 +170,8 @@ pub(crate) fn take_object<'a, S: Slots<'a>>(
     reader: &mut Reader<'a>,
     depth: usize,
 ) -> Result<S, NotRead>
-    requires { IsTrue (are_distinct (texts names.now)) }
+    requires distinct { IsTrue (are_distinct (texts names.now)) }
+    requires plain { IsTrue (are_plain (texts names.now)) }
     ensures ok { IfOk result
         (Found (λ d slots. slots ≡ S.of plan.now (slots_for names.now (names_of d)))
         (next depth reader.old) reader.new) }
@@ -140,7 +193,8 @@ fn take_members<'a, S: Slots<'a>>(
     reader: &mut Reader<'a>,
     depth: usize,
 ) -> Result<S, NotRead>
-    requires { IsTrue (are_distinct (texts names.now)) }
+    requires distinct { IsTrue (are_distinct (texts names.now)) }
+    requires plain { IsTrue (are_plain (texts names.now)) }
     ensures ok { IfOk result
         (Found (λ ms slots. slots ≡ S.of plan.now
         (slots_for names.now (λ name. get_member name ms)))
@@ -148,7 +202,35 @@ fn take_members<'a, S: Slots<'a>>(
     ensures err { result ≡ Err NotRead.NotJson → next_members depth reader.old ≡ None }
     ensures shorter { OnOk result (length reader.new ≤ length reader.old) }
 {
-    let mut slots = S::empty(plan);
+    let slots = S::take_in_order(alloc, plan, names, 0, reader, depth)?;
+    if reader.take_end_object() {
+        return Ok(slots);
+    }
+    take_others(alloc, plan, names, slots, reader, depth)
+}
+
+/// The same where some members were taken.
+#[inline(never)]
+fn take_others<'a, S: Slots<'a>>(
+    alloc: Global,
+    plan: &Plan,
+    names: &[&str],
+    taken: S,
+    reader: &mut Reader<'a>,
+    depth: usize,
+) -> Result<S, NotRead>
+    requires { IsTrue (are_distinct (texts names.now)) }
+    ensures ok { (old : Members)
+        → taken ≡ S.of plan.now (slots_for names.now (λ name. get_member name old)) → IfOk result
+        (Found (λ ms slots. slots ≡ S.of plan.now
+        (slots_for names.now (λ name. get_member name ms)))
+        (members_behind old depth reader.old) reader.new) }
+    ensures err { (old : Members)
+        → taken ≡ S.of plan.now (slots_for names.now (λ name. get_member name old))
+        → result ≡ Err NotRead.NotJson → members_behind old depth reader.old ≡ None }
+    ensures shorter { OnOk result (length reader.new ≤ length reader.old) }
+{
+    let mut slots = taken;
     let mut expected = 0;
     'members: while let Some(name) = reader.next_key()? {
         expected = take_member(
@@ -156,6 +238,29 @@ fn take_members<'a, S: Slots<'a>>(
         )?;
     }
     Ok(slots)
+}
+
+/// Takes the member that is next, where it has this name as the product writes it.
+#[inline(always)]
+fn take_named<'a, T: FromReader<'a>>(
+    alloc: Global,
+    plan: &Plan,
+    name: &str,
+    reader: &mut Reader<'a>,
+    depth: usize,
+) -> Result<Option<T>, NotRead>
+    requires { IsTrue (is_plain_name name.now) }
+    ensures ok { (old : Members) → get_member name.now old ≡ None → IfOk result
+        (λ it. IsNameTaken (T.at plan.now) name.now old
+        (members_behind old depth reader.old) depth it reader.new) }
+    ensures err { (old : Members) → result ≡ Err NotRead.NotJson
+        → members_behind old depth reader.old ≡ None }
+    ensures shorter { OnOk result (length reader.new ≤ length reader.old) }
+{
+    if reader.take_key_named(name) {
+        return T::read(alloc, plan, reader, depth);
+    }
+    Ok(None)
 }
 
 /// Takes the value of a member of that name, and tells the place of the name that is expected next.

@@ -1,6 +1,6 @@
 use Rattle.std.proofs.Common.{◌≡◌, ◌≤◌, drop, length}
 use Rattle.std.specs.Str.{bytes_eq}
-use Rattle.tq_json.proofs.word.is_text.Given as goal
+use Rattle.tq_json.proofs.word.are_same.Given as goal
 
 -- the bytes from the place on are the same, or not
 abbrev pub invariant-bytes : goal.invariant-bytes
