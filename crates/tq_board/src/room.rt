@@ -5,6 +5,7 @@ ghost use Rattle.hex.specs.Hex.{encode_lower};
 
 use std::alloc::{AllocError, Global};
 use std::marker::Model;
+use tq_shape::spell;
 
 /// The most bytes that a room has.
 const ROOM: usize = 65_536;
@@ -122,13 +123,4 @@ fn write_pair(places: &mut [u8], at: usize, number: u64)
 {
     places[at] = b'0' + (number / 10) as u8;
     places[at + 1] = b'0' + (number % 10) as u8;
-}
-
-/// Writes the digits of the bytes in hexadecimal, two of each.
-#[inline(always)]
-pub(crate) fn spell(bytes: &[u8], digits: &mut [u8])
-    requires { length digits.old ≡ 2 * length bytes.now }
-    ensures { digits.new ≡ encode_lower bytes.now }
-{
-    let _spelled = hex::encode_to_slice(bytes, digits);
 }

@@ -5,9 +5,10 @@ ghost use Rattle.hex.specs.Hex.{encode_lower};
 ghost use Rattle.tq_board.specs.Lines.{Ends, IsSpilled, Settles, Spills, spill};
 
 use crate::out::Out;
-use crate::room::{Room, spell};
+use crate::room::Room;
 use std::convert::Infallible;
 use tq_devices::{RunFault, Sink, write_out};
+use tq_shape::spell;
 
 /// The most digits of a number.
 const MOST_DIGITS: usize = 20;

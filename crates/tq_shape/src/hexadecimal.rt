@@ -44,9 +44,9 @@ fn push_part(text: &mut Vec<u8>, part: &[u8]) -> Result<(), AllocError>
     text.extend_from_slice(digits)
 }
 
-/// Writes the digits of the bytes.
+/// Writes the bytes in hexadecimal, in lower case: two digits for each, in place of what stood there.
 #[inline(always)]
-fn spell(bytes: &[u8], digits: &mut [u8])
+pub fn spell(bytes: &[u8], digits: &mut [u8])
     requires { length digits.old ≡ 2 * length bytes.now }
     ensures { digits.new ≡ encode_lower bytes.now }
 {

@@ -24,7 +24,7 @@ mod words;
 pub use answers::{Answers, Plan};
 pub use decimal::push_number;
 pub use fault::{AskFault, Fault};
-pub use hexadecimal::push_bytes;
+pub use hexadecimal::{push_bytes, spell};
 pub use journaled::{Answered, Journaled, foresee};
 pub use level::{Levels, MOST_LEVELS};
 pub use limits::{Limits, MOST_ENTRIES, MOST_FILES, MOST_OPS};
