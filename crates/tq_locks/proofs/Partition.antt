@@ -116,7 +116,7 @@ middle low high l =
 
 -- the kept locks, with these keys under a transaction
 abbrev pub with_list : KeyedLocks → ℕ → List ℕ → KeyedLocks
-with_list kept txn keys = record { entries = kept.entries; by_file = kept.by_file; by_txn = with_entries kept.by_txn ((txn, record { items = keys; capacity = 0 }) ∷ kept.by_txn.entries); homes = kept.homes; alloc = kept.alloc }
+with_list kept txn keys = record { entries = kept.entries; by_file = kept.by_file; by_txn = with_entries kept.by_txn ((txn, record { items = keys; capacity = 0 }) ∷ kept.by_txn.entries); homes = kept.homes; last = kept.last; alloc = kept.alloc }
 
 turned_test : (m n : ℕ) → nat_eq m n ≡ (n == m)
 turned_test m n = grind (arith, nat_tests)

@@ -55,6 +55,26 @@ pub(crate) fn list_under<'a, K: Ord + Hash>(
     }
 }
 
+/// The same, where the list is likely to be at an index.
+#[inline(always)]
+pub(crate) fn list_near<'a, K: Ord + Hash>(
+    lists: &'a BoundedIndexMap<K, Keys>,
+    name: &K,
+    near: usize,
+) -> (Option<usize>, Option<&'a Keys>)
+    ensures index { result.0 ≡ index_of K.eq lists.now name.now }
+    ensures list { option_copied result.1 ≡ get K.eq lists.now name.now }
+{
+    if near < lists.len() {
+        if let Some(list) = lists.get_index(near) {
+            if *name == *list.0 {
+                return (Some(near), Some(list.1));
+            }
+        }
+    }
+    list_under(lists, name)
+}
+
 /// The place of a key in the list of its name.
 #[derive(Clone, Copy)]
 pub(crate) struct Spot {

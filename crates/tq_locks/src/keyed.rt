@@ -12,8 +12,8 @@ ghost use Rattle.tq_locks.specs.Keys.{lent_keys, keys_under, place, entries_of};
 ghost use Rattle.tq_locks.specs.Kept.{first_blocker};
 
 use crate::index::{
-    Spot, end_empty_under, enter_under, list_under, listed_under, make_room_under, put_under,
-    take_all_under, take_near, take_under,
+    Spot, end_empty_under, enter_under, list_near, list_under, listed_under, make_room_under,
+    put_under, take_all_under, take_near, take_under,
 };
 use crate::keys::{Keys, LentKeys};
 use crate::lists::place;
@@ -32,6 +32,9 @@ pub(crate) struct KeyedLocks {
     pub(crate) by_txn: BoundedIndexMap<u64, Keys>,
     /// Where in `by_file` the list of an entry's file is likely to be, by the entry's key. This is tested before it is used.
     pub(crate) homes: Vec<usize>,
+    /// Where in `by_txn` the list of a transaction is likely to be, the one that was granted a lock last. This is tested before it
+    /// is used.
+    pub(crate) last: usize,
     alloc: Global,
 }
 
@@ -54,6 +57,7 @@ impl KeyedLocks {
             by_file: BoundedIndexMap::new(alloc),
             by_txn: BoundedIndexMap::new(alloc),
             homes: Vec::new(alloc),
+            last: 0,
             alloc,
         }
     }
@@ -83,7 +87,7 @@ impl KeyedLocks {
         ensures none { FindsNone self.now (file.now, txn) result.key }
         ensures spot { IsSpotOf self.now (file.now, txn) result.spot }
     {
-        let list = list_under(&self.by_txn, &txn);
+        let list = list_near(&self.by_txn, &txn, self.last);
         let place = place(&self.entries, list.1, file, txn);
         Found {
             spot: Spot {
@@ -142,6 +146,7 @@ impl KeyedLocks {
         enter_under(self.alloc, &mut self.by_file, file, in_file, key)?;
         // From here on nothing fails.
         note_home(&mut self.homes, key, in_file.index.unwrap_or(new_list));
+        self.last = spot.index.unwrap_or(self.by_txn.len());
         put_under(self.alloc, &mut self.by_txn, &txn, spot, key);
         self.entries.insert_reserved(file, txn, lock);
         Ok(None)
@@ -224,6 +229,7 @@ impl KeyedLocks {
             by_file: self.by_file.clone()?,
             by_txn: self.by_txn.clone()?,
             homes: self.homes.clone()?,
+            last: self.last,
             alloc: self.alloc,
         })
     }

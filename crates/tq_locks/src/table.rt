@@ -3,7 +3,7 @@
 ghost use Rattle.std.specs.Prelude.{◌≡◌, OnOk, OnErr, IfOk, IfSome, IfNone, None, Some};
 ghost use Rattle.std.specs.FinMap as fin;
 
-use crate::index::{is_empty_under, listed_under};
+use crate::index::{is_empty_under, list_near, listed_under};
 use crate::keyed::{HeldLocks, KeyedLocks, held_by, walk};
 use crate::{Lock, Mode};
 use std::alloc::{AllocError, Global};
@@ -217,7 +217,8 @@ impl LockTable {
     pub fn locks_of(&self, txn: u64) -> HeldLocks<'_>
         ensures { result ≡ held_of self.now.locks txn }
     {
-        walk(&self.kept.entries, self.kept.by_txn.get(&txn))
+        let list = list_near(&self.kept.by_txn, &txn, self.kept.last);
+        walk(&self.kept.entries, list.1)
     }
 
     /// The locks of a transaction, ascending by file.

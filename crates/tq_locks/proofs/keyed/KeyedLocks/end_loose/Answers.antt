@@ -21,14 +21,14 @@ module _ (old removed new : KeyedLocks) (e : LockKey × Lock) (agreed : Agrees r
 pub returns-clause-agreed : goal.returns-clause-agreed
 returns-clause-agreed c =
     let e = c.in-Some.entry.now in
-    let new : KeyedLocks = record { entries = c.remove.new.self.entries; by_file = c.remove.new.self.by_file; by_txn = c.end_empty_under.new.lists; homes = c.remove.new.self.homes; alloc = c.remove.new.self.alloc } in
+    let new : KeyedLocks = record { entries = c.remove.new.self.entries; by_file = c.remove.new.self.by_file; by_txn = c.end_empty_under.new.lists; homes = c.remove.new.self.homes; last = c.remove.new.self.last; alloc = c.remove.new.self.alloc } in
     agreed_self new (fin.remove (locks_in c.args.self.now) e.0) (taken c.args.self.now c.remove.new.self new e (c.remove.ensures.agreed e.0 (e.1, sym c.in-Some.ensures)) refl refl c.end_empty_under.ensures)
 
 pub returns-clause-left : goal.returns-clause-left
 returns-clause-left c =
     let e = c.in-Some.entry.now in
     let old = locks_in c.args.self.now in
-    let new : KeyedLocks = record { entries = c.remove.new.self.entries; by_file = c.remove.new.self.by_file; by_txn = c.end_empty_under.new.lists; homes = c.remove.new.self.homes; alloc = c.remove.new.self.alloc } in
+    let new : KeyedLocks = record { entries = c.remove.new.self.entries; by_file = c.remove.new.self.by_file; by_txn = c.end_empty_under.new.lists; homes = c.remove.new.self.homes; last = c.remove.new.self.last; alloc = c.remove.new.self.alloc } in
     let loose = c.requires.loose in
     let same : loose.0 ≡ e = some_same loose.0 e (sym loose.1 ∙ sym c.in-Some.ensures) in
     ap only_stable (locks_in-agreed new (fin.remove old e.0) (taken c.args.self.now c.remove.new.self new e (c.remove.ensures.agreed e.0 (e.1, sym c.in-Some.ensures)) refl refl c.end_empty_under.ensures))

@@ -15,19 +15,19 @@ returns-in-Err-clause-told c =
 pub returns-in_err-reserve-clause-err : goal.returns-in_err-reserve-clause-err
 returns-in_err-reserve-clause-err c =
     let old = c.args.self.now in
-    let new : KeyedLocks = record { entries = c.reserve.new.self; by_file = old.by_file; by_txn = old.by_txn; homes = old.homes; alloc = old.alloc } in
+    let new : KeyedLocks = record { entries = c.reserve.new.self; by_file = old.by_file; by_txn = old.by_txn; homes = old.homes; last = old.last; alloc = old.alloc } in
     OnErr-any _ _ (Agrees-same old new (locks_in old) c.requires.agreed c.reserve.ensures.same (λ f. refl) (λ t. refl))
 
 pub returns-in_err-make_room_under-clause-err : goal.returns-in_err-make_room_under-clause-err
 returns-in_err-make_room_under-clause-err c =
     let old = c.args.self.now in
-    let new : KeyedLocks = record { entries = c.reserve.new.self; by_file = old.by_file; by_txn = c.make_room_under.new.lists; homes = old.homes; alloc = old.alloc } in
+    let new : KeyedLocks = record { entries = c.reserve.new.self; by_file = old.by_file; by_txn = c.make_room_under.new.lists; homes = old.homes; last = old.last; alloc = old.alloc } in
     OnErr-any _ _ (Agrees-same old new (locks_in old) c.requires.agreed c.reserve.ensures.same (λ f. refl) c.make_room_under.ensures.same)
 
 pub returns-in_err-enter_under-clause-err : goal.returns-in_err-enter_under-clause-err
 returns-in_err-enter_under-clause-err c =
     let old = c.args.self.now in
-    let new : KeyedLocks = record { entries = c.reserve.new.self; by_file = c.enter_under.new.lists; by_txn = c.make_room_under.new.lists; homes = old.homes; alloc = old.alloc } in
+    let new : KeyedLocks = record { entries = c.reserve.new.self; by_file = c.enter_under.new.lists; by_txn = c.make_room_under.new.lists; homes = old.homes; last = old.last; alloc = old.alloc } in
     OnErr-any _ _ (Agrees-same old new (locks_in old) c.requires.agreed c.reserve.ensures.same c.in_err-enter_under.ensures.err c.make_room_under.ensures.same)
 
 pub returns-clause-told : goal.returns-clause-told
@@ -38,8 +38,8 @@ returns-clause-told c =
 pub returns-clause-ok : goal.returns-clause-ok
 returns-clause-ok c =
     let old = c.args.self.now in
-    let middle : KeyedLocks = record { entries = c.reserve.new.self; by_file = old.by_file; by_txn = c.make_room_under.new.lists; homes = old.homes; alloc = old.alloc } in
-    let new : KeyedLocks = record { entries = c.insert_reserved.new.self; by_file = c.enter_under.new.lists; by_txn = c.put_under.new.lists; homes = c.note_home.new.homes; alloc = old.alloc } in
+    let middle : KeyedLocks = record { entries = c.reserve.new.self; by_file = old.by_file; by_txn = c.make_room_under.new.lists; homes = old.homes; last = old.last; alloc = old.alloc } in
+    let new : KeyedLocks = record { entries = c.insert_reserved.new.self; by_file = c.enter_under.new.lists; by_txn = c.put_under.new.lists; homes = c.note_home.new.homes; last = c.unwrap_or-self.result; alloc = old.alloc } in
     let file = c.args.file.now in
     let txn = c.args.txn in
     let same = c.reserve.ensures.same in

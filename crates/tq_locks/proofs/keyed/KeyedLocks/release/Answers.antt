@@ -15,7 +15,7 @@ pub loop-key-init : goal.loop-key-init
 loop-key-init c =
     let old = c.args.self.now in
     let out = c.take_all_under-keys in
-    let new : KeyedLocks = record { entries = old.entries; by_file = old.by_file; by_txn = out.new.lists; homes = old.homes; alloc = old.alloc } in
+    let new : KeyedLocks = record { entries = old.entries; by_file = old.by_file; by_txn = out.new.lists; homes = old.homes; last = old.last; alloc = old.alloc } in
     (Agrees-out old new (locks_in old) c.args.txn out.result.items c.requires refl refl out.ensures.keys out.ensures.after, refl, out.ensures.after c.args.txn ∙ cond_same c.args.txn [] (keys_under nat_eq old.by_txn c.args.txn))
 
 pub loop-key-preserved : goal.loop-key-preserved

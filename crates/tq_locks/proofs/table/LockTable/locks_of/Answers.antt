@@ -10,4 +10,4 @@ pub returns : goal.returns
 returns c =
     let kept = c.self.inside.kept in
     let all = told-listed (get kept.entries) (keys_under nat_eq kept.by_txn c.args.txn) (held_of (locks_in kept) c.args.txn) (c.self.invariant.0.of_txn c.args.txn) in
-    c.walk.ensures ∙ ap (λ list. entries_of kept.entries (keys_in list)) c.get.ensures.value ∙ all ∙ ap (λ m. held_of m c.args.txn) (ap (λ (v : LocksView). v.locks) c.self.view_is)
+    c.walk.ensures ∙ ap (λ list. entries_of kept.entries (keys_in list)) c.list_near-list.ensures.list ∙ all ∙ ap (λ m. held_of m c.args.txn) (ap (λ (v : LocksView). v.locks) c.self.view_is)
