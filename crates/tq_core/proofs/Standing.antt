@@ -1,6 +1,6 @@
 -- A service stands as its journals say, also after one more entry.
 use Rattle.std.proofs.Common.{◌≡◌, ◌≤◌, ◌<◌, ◌+◌, ◌-◌, ◌^◌, ℕ, suc, Bool, true, false, cond, List, [], ◌∷◌, ◌++◌, length, map, set, get_or, replicate, Option, Some, None, refl, sym, ap, subst, ◌∙◌, arith}
-use Rattle.std.specs.Prelude.{nat_lt, slice_get, Result, Ok, Err, IfOk, OnErr}
+use Rattle.std.specs.Prelude.{nat_lt, slice_get, reverse, Result, Ok, Err, IfOk, OnErr}
 use Rattle.std.specs.Option.{option_map, unwrap_or}
 use Rattle.std.specs.Result.{IsErrAnd}
 use Rattle.std.proofs.lemmas.List.{get_or-map, length-map, length-set, length-replicate, length_push, map-set, set-get_or}
@@ -24,6 +24,8 @@ use Rattle.tq_node.specs.Records.{node_reply}
 use Rattle.tq_desk.specs.declared.ask.DeskAsk.{DeskAsk}
 use Rattle.tq_desk.specs.declared.ask.DeskReply.{DeskReply}
 use Rattle.tq_desk.specs.DeskJournal.{DeskEntry}
+use Rattle.tq_desk.specs.DeskStep.{DeskView}
+use Rattle.tq_desk.proofs.DecisionLog.{desk_keeps}
 use Rattle.tq_live.specs.Live.{Live, best}
 use Rattle.tq_live.specs.View.{view_reply, is_server, are_costs, choice_reply}
 use Rattle.tq_live.specs.declared.purpose.Purpose.{Purpose}
@@ -35,8 +37,9 @@ use Rattle.tq_live.specs.declared.view.ViewRefusal.TheVariants.{NoSuchServer, Ba
 use Rattle.tq_tables.specs.Tables.{FollowsDesk, FollowsNode, FollowsView, MayAskNode, both, desk_replies, node_in, node_replies, view_replies, entries_of, with_node, TablesView, tables_of}
 use Rattle.tq_tables.specs.declared.parts.Replies.{Replies}
 use Rattle.tq_tables.specs.Journals.{JournalsView, AreJournals, IsOfTree, ViewEntry, with_desk, with_view}
-use Rattle.tq_tables.specs.Parts.{AreLegal, node_after_all}
+use Rattle.tq_tables.specs.Parts.{AreLegal, bounds_of, node_after_all}
 use Rattle.tq_tables.proofs.Restood.{is_there, node_in-at, node_is}
+use Rattle.tq_tables.proofs.RowLaws.{desk_at-is}
 use Rattle.tq_core.specs.declared.answer.Reply.{Reply}
 use Rattle.tq_core.specs.declared.answer.Reply.TheVariants as replies
 use Rattle.tq_core.specs.declared.answer.Step.{Step}
@@ -106,6 +109,13 @@ asked_at into tables world given new step answered here asked none =
     subst (λ (w : JournalsView). Asked into tables w new step answered) here (asked (ap (λ (w : JournalsView). refusal w step) here ∙ none))
 
 -- ---- the desk
+
+-- the desk is of the tree of the journals
+pub desk-levels : (tables : TablesView) (world : JournalsView) → IsService tables world → tables.desk.levels ≡ world.levels
+desk-levels tables world service =
+    ap (λ (t : TablesView). t.desk.levels) service.stand
+    ∙ ap (λ (d : DeskView). d.levels) (desk_at-is world.levels world.limits world.desk)
+    ∙ (desk_keeps (bounds_of world.levels world.limits) (reverse world.desk) (legal_run world service.ran).desk).levels
 
 module _ (tables new : TablesView) (world given : JournalsView) (here : world ≡ given) (service : IsService tables world) (after : List DeskEntry) (ask : DeskAsk) where
   desk_journals : refusal world (steps.Desk ask) ≡ None → AreJournals (world_with_step world (steps.Desk ask))

@@ -13,7 +13,7 @@ use crate::{
 use std::alloc::Global;
 use std::marker::Model;
 use tq_asks::{NodeAsk, NodeReply};
-use tq_desk::{DeskAsk, DeskReply};
+use tq_desk::{ByRules, DeskAsk, DeskReply, Judge};
 use tq_live::{View, ViewAsk, ViewReply};
 use tq_shape::{AskFault, Levels, Limits, Memory, Part, ServerId, make_room};
 use tq_tables::{DeskEntry, Entry, Journals, NodeEntry, Replies, TabledJournals, Tables};
@@ -206,8 +206,13 @@ impl Service {
     }
 
     /// Asks the desk: the ask is entered into its journal with its reply, which is told with the number of the entry.
-    /// Where the ask is not taken, everything is as it was.
-    pub fn ask_desk(&mut self, alloc: Global, ask: DeskAsk) -> Result<Answered<DeskReply>, AskFault>
+    /// Of a commit the evidence is judged by `J`. Where the ask is not taken, everything is as it was.
+    pub fn ask_desk<J: Judge>(
+        &mut self,
+        alloc: Global,
+        ask: DeskAsk,
+    ) -> Result<Answered<DeskReply>, AskFault>
+        requires { J.takes self.old.levels ask }
         ensures told { spec.IsTold self.old (Step.Desk ask) (told_by Reply.Desk result) }
         ensures after { OnOk result (self.new ≡ spec.world_after self.old (Step.Desk ask)) }
         ensures err { OnErr result (self.new ≡ self.old) }
@@ -220,7 +225,7 @@ impl Service {
             return Err(fault);
         }
         make_room(&mut self.tabled.desk, 1)?;
-        let replies = self.tabled.tables.ask_desk(alloc, &ask)?;
+        let replies = self.tabled.tables.ask_desk::<J>(alloc, &ask)?;
         let Replies { entered, told } = replies;
         self.tabled.desk.push_reserved(Entry {
             ask,
@@ -286,7 +291,7 @@ impl Service {
                     Err(fault) => Err(refusal_of(fault)),
                 }
             }
-            Step::Desk(ask) => match self.ask_desk(alloc, ask) {
+            Step::Desk(ask) => match self.ask_desk::<ByRules>(alloc, ask) {
                 Ok(told) => Ok(Answer {
                     number: told.number,
                     reply: Reply::Desk(told.reply),

@@ -15,7 +15,7 @@ use Rattle.tq_desk.specs.declared.ask.DeskReply.{DeskReply}
 use Rattle.tq_desk.specs.declared.ask.DeskReply.TheVariants.{Txn, Verdict, Committed, Refused}
 use Rattle.tq_evidence.specs.declared.op.Op.{Op}
 use Rattle.tq_evidence.specs.declared.vote.Vote.{Vote}
-use Rattle.tq_evidence.specs.Evidence.{failed_rule, is_write}
+use Rattle.tq_evidence.specs.Evidence.{failed_rule, is_write, IsGood}
 use Rattle.tq_shape.specs.Journal.{refuse, refuse_for, state_at}
 
 -- how each transaction ended that has
@@ -71,6 +71,11 @@ commit_refusal old txn ops votes =
     (refuse (nat_lt old.limits.ops (length ops)) TooManyOps
     (refuse_for (failed_rule old.levels ops votes) BadEvidence
     (refuse (writes_too_many_files old ops) TooManyFiles None))))
+
+-- a commit's evidence is good
+abbrev pub HasGoodEvidence : ℕ → DeskAsk → Type 0
+HasGoodEvidence levels (Commit txn ops votes) = IsGood levels ops votes
+HasGoodEvidence levels ask = Unit {0}
 
 abbrev pub desk_refusal : DeskView → DeskAsk → Option DeskRefusal
 desk_refusal old Begin = None

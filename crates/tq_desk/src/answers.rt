@@ -1,6 +1,6 @@
 //! The desk as a part that answers asks.
 
-use crate::{Desk, DeskAsk, DeskChange, DeskReply};
+use crate::{ByRules, Desk, DeskAsk, DeskChange, DeskReply};
 use std::alloc::Global;
 use tq_shape::{Answers, Memory, Plan};
 
@@ -36,7 +36,7 @@ impl Answers for Desk {
         _number: u64,
         ask: &DeskAsk,
     ) -> Result<Plan<DeskReply, DeskChange>, Memory> {
-        self.plan(alloc, ask)
+        self.plan::<ByRules>(alloc, ask)
     }
 
     fn apply(&mut self, _alloc: Global, planned: DeskChange) -> Result<(), Memory> {

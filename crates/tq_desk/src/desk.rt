@@ -11,11 +11,11 @@ ghost use Rattle.tq_desk.specs.DeskStep as spec;
 
 use crate::files::{WrittenFiles, written_names};
 use crate::finals::Finals;
-use crate::{DeskAsk, DeskRefusal, DeskReply};
+use crate::{ByRules, DeskAsk, DeskRefusal, DeskReply, Judge};
 use std::alloc::Global;
 use std::marker::Model;
 use tq_asks::{CitedVote, Verdict};
-use tq_evidence::{Op, Vote, failed_rule};
+use tq_evidence::{Op, Vote};
 use tq_shape::{Levels, Limits, Memory, Plan, Seq, SharedSeq};
 use tq_store::FileName;
 
@@ -122,7 +122,7 @@ impl Desk {
         ensures err { OnErr result (self.new ≡ self.old) }
         ensures journal { IfOk result (AnswersByLogs self.old self.new ask.now) }
     {
-        let plan = self.plan(alloc, ask)?;
+        let plan = self.plan::<ByRules>(alloc, ask)?;
         let Plan { reply, change } = plan;
         self.apply(change)?;
         Ok(reply)
@@ -133,13 +133,18 @@ impl Desk {
         requires { self.now.begun + 1 < 2 ^ 64 }
         ensures { IfOk result (λ reply. reply ≡ spec.desk_reply self.now ask.now) }
     {
-        let plan = self.plan(alloc, ask)?;
+        let plan = self.plan::<ByRules>(alloc, ask)?;
         Ok(plan.reply)
     }
 
-    /// The reply to an ask, and what `apply` is to change. Of a commit the evidence is judged here. Nothing changes.
-    pub fn plan(&self, alloc: Global, ask: &DeskAsk) -> Result<Plan<DeskReply, DeskChange>, Memory>
-        requires { self.now.begun + 1 < 2 ^ 64 }
+    /// The reply to an ask, and what `apply` is to change. Of a commit the evidence is judged by `J`. Nothing changes.
+    pub fn plan<J: Judge>(
+        &self,
+        alloc: Global,
+        ask: &DeskAsk,
+    ) -> Result<Plan<DeskReply, DeskChange>, Memory>
+        requires begun { self.now.begun + 1 < 2 ^ 64 }
+        requires judged { J.takes self.now.levels ask.now }
         ensures reply { IfOk result (λ plan. plan.reply ≡ spec.desk_reply self.now ask.now) }
         ensures change { IfOk result (λ plan. plan.change ≡ desk_change self.now ask.now) }
     {
@@ -152,7 +157,7 @@ impl Desk {
                 })
             }
             DeskAsk::Commit { txn, ops, votes } => {
-                let plan = self.plan_commit(alloc, *txn, ops.as_slice(), votes.as_slice())?;
+                let plan = self.plan_commit::<J>(alloc, *txn, ops.as_slice(), votes.as_slice())?;
                 Ok(plan)
             }
             DeskAsk::Resolve { txn } => {
@@ -216,16 +221,17 @@ impl Desk {
     }
 
     /// The plan of a Commit.
-    fn plan_commit(
+    fn plan_commit<J: Judge>(
         &self,
         alloc: Global,
         txn: u64,
         ops: &[Op],
         votes: &[Vote],
     ) -> Result<Plan<DeskReply, DeskChange>, Memory>
+        requires { J.takes self.now.levels (DeskAsk.Commit txn ops.now votes.now) }
         ensures { IfOk result (IsDeskPlan self.now (DeskAsk.Commit txn ops.now votes.now)) }
     {
-        match self.commit_refusal(alloc, txn, ops, votes)? {
+        match self.commit_refusal::<J>(alloc, txn, ops, votes)? {
             Some(reason) => Ok(refusal_plan(reason)),
             None => {
                 let _ended = self.finals.len();
@@ -270,13 +276,14 @@ impl Desk {
     }
 
     /// What a commit is refused for: the first reason that holds.
-    fn commit_refusal(
+    fn commit_refusal<J: Judge>(
         &self,
         alloc: Global,
         txn: u64,
         ops: &[Op],
         votes: &[Vote],
     ) -> Result<Option<DeskRefusal>, Memory>
+        requires { J.takes self.now.levels (DeskAsk.Commit txn ops.now votes.now) }
         ensures { IfOk result (λ it. it ≡ spec.commit_refusal self.now txn ops.now votes.now) }
     {
         if !self.is_begun(txn) {
@@ -288,7 +295,7 @@ impl Desk {
         if ops.len() > self.limits.ops() as usize {
             return Ok(Some(DeskRefusal::TooManyOps));
         }
-        if let Some(rule) = failed_rule(alloc, self.levels, ops, votes)? {
+        if let Some(rule) = J::failed_rule(alloc, self.levels, txn, ops, votes)? {
             return Ok(Some(DeskRefusal::BadEvidence { rule }));
         }
         if self.writes_too_many_files(ops) {

@@ -9,9 +9,11 @@ mod ask;
 mod desk;
 mod files;
 mod finals;
+mod judge;
 mod laws;
 
 pub use ask::{DeskAsk, DeskRefusal, DeskReply};
 pub use desk::{Desk, DeskChange};
+pub use judge::{ByProof, ByRules, Judge};
 pub use laws::{decision_log, desk_laws};
 pub use tq_evidence::{Grant, Op, OpKind, Rule, Vote};

@@ -10,7 +10,7 @@ use std::alloc::Global;
 use std::marker::Model;
 use tq_asks::{NodeAsk, NodeReply};
 use tq_core::Service;
-use tq_desk::DeskAsk;
+use tq_desk::{ByProof, DeskAsk};
 use tq_live::ViewAsk;
 use tq_shape::{Answered, Levels, Limits, Memory, ServerId};
 use tq_txn::{AskFault, Asker, DeskTold, Exchange, NodeTold, ViewTold};
@@ -104,6 +104,7 @@ fn copy_of_desk_ask(ask: &DeskAsk) -> Result<DeskAsk, Memory>
 
 impl Asker for Recorder {
     ghost use Rattle.std.specs.Prelude.{◌≡◌, ◌++◌, IfOk};
+    ghost use Rattle.tq_desk.specs.DeskStep.{HasGoodEvidence};
     ghost use Rattle.tq_txn.specs.Dialogue.{node_exchange, desk_exchange, view_exchange};
 
     ghost told = { λ a. a.told };
@@ -145,12 +146,13 @@ impl Asker for Recorder {
     }
 
     fn desk(&mut self, alloc: Global, ask: DeskAsk) -> Result<DeskTold, AskFault>
+        requires { HasGoodEvidence self.old.journals.levels ask }
         ensures exchanges { self.new.told ≡ self.old.told ++ desk_exchange ask result }
         ensures same { IfOk result (λ t. t.ask ≡ ask) }
         ensures tree { self.new.journals.levels ≡ self.old.journals.levels }
     {
         let copy = copy_of_desk_ask(&ask)?;
-        let answer = self.service.ask_desk(alloc, ask);
+        let answer = self.service.ask_desk::<ByProof>(alloc, ask);
         self.told = with_desk(&self.told, &copy, &answer);
         match answer {
             Ok(told) => Ok(DeskTold {

@@ -7,6 +7,7 @@ ghost use Rattle.tq_mirror.specs.Prefixes.{AreAhead, AreKept, AreLed, DeskMayFol
 use crate::entries::Entries;
 use crate::prefixes::Prefixes;
 use std::alloc::Global;
+use tq_desk::ByRules;
 use tq_shape::{Memory, Part};
 use tq_tables::{DeskEntry, NodeEntry, Same, Tables, ViewEntry};
 
@@ -119,7 +120,7 @@ pub(crate) fn follow_desk(
 {
     let mut ahead = tables;
     for entry in entries {
-        let replies = ahead.ask_desk(alloc, &entry.ask)?;
+        let replies = ahead.ask_desk::<ByRules>(alloc, &entry.ask)?;
         if !replies.told.is_same(&entry.reply) {
             return Ok(None);
         }

@@ -22,7 +22,7 @@ use crate::{FileRow, IntentRow, Journals, LockRow, PartEntry, QuorumRow};
 use std::alloc::Global;
 use std::marker::Model;
 use tq_asks::{NodeAsk, NodeReply};
-use tq_desk::{Desk, DeskAsk, DeskReply, Op};
+use tq_desk::{ByRules, Desk, DeskAsk, DeskReply, Judge, Op};
 use tq_live::{Least, Purpose, View, ViewAsk, ViewReply};
 use tq_node::{Node, Telling};
 use tq_shape::{Levels, Limits, Memory, Part, ServerId};
@@ -111,7 +111,7 @@ impl Tables {
             tables.follow_view(alloc, &view_entry.ask)?;
         }
         for desk_entry in journals.desk() {
-            tables.ask_desk(alloc, &desk_entry.ask)?;
+            tables.ask_desk::<ByRules>(alloc, &desk_entry.ask)?;
         }
         let mut server = 0;
         for entries in servers {
@@ -178,18 +178,23 @@ impl Tables {
         Ok(replies)
     }
 
-    /// Asks the desk. Only the rows of the files change that a commit writes. All memory is taken before the first
-    /// change, so that out of memory leaves the tables as they were.
+    /// Asks the desk; of a commit the evidence is judged by `J`. Only the rows of the files change that a commit writes. All
+    /// memory is taken before the first change, so that out of memory leaves the tables as they were.
     #[inline(always)]
-    pub fn ask_desk(&mut self, alloc: Global, ask: &DeskAsk) -> Result<Replies<DeskReply>, Memory>
-        requires { MayAskDesk self.old }
+    pub fn ask_desk<J: Judge>(
+        &mut self,
+        alloc: Global,
+        ask: &DeskAsk,
+    ) -> Result<Replies<DeskReply>, Memory>
+        requires next { MayAskDesk self.old }
+        requires judged { J.takes self.old.desk.levels ask.now }
         ensures replies { IfOk result (λ replies. replies ≡ desk_replies self.old.desk ask.now) }
         ensures asked { OnOk result (FollowsDesk self.old self.new ask.now) }
         ensures unchanged { OnErr result (self.new ≡ self.old) }
     {
         let parts: &mut Parts = &mut self.followed.parts;
         let files: &mut FileTable = &mut self.followed.files;
-        let plan = parts.desk().plan(alloc, ask)?;
+        let plan = parts.desk().plan::<J>(alloc, ask)?;
         let change = plan.change;
         let replies = twice::<Desk>(alloc, plan.reply)?;
         let ops = committed_ops(ask, &replies.entered);
@@ -281,7 +286,7 @@ impl Tables {
             },
             Part::Desk => match entry {
                 PartEntry::Desk(entry) => {
-                    self.ask_desk(alloc, &entry.ask)?;
+                    self.ask_desk::<ByRules>(alloc, &entry.ask)?;
                 }
                 PartEntry::Server(_) | PartEntry::View(_) => unreachable!(),
             },

@@ -39,6 +39,7 @@ pub enum Exchange {
 /// Whoever can ask the parts of a system: one ask a call.
 pub trait Asker {
     ghost use Rattle.std.specs.Prelude.{◌≡◌, ◌++◌, ℕ, List, IfOk};
+    ghost use Rattle.tq_desk.specs.DeskStep.{HasGoodEvidence};
     ghost use Rattle.tq_txn.specs.declared.asker.Exchange.{Exchange};
     ghost use Rattle.tq_txn.specs.Dialogue.{node_exchange, desk_exchange, view_exchange};
 
@@ -56,6 +57,7 @@ pub trait Asker {
         ensures tree { levels self.new ≡ levels self.old };
 
     fn desk(&mut self, alloc: Global, ask: DeskAsk) -> Result<DeskTold, AskFault>
+        requires { HasGoodEvidence (levels self.old) ask }
         ensures exchanges { told self.new ≡ told self.old ++ desk_exchange ask result }
         ensures same { IfOk result (λ t. t.ask ≡ ask) }
         ensures tree { levels self.new ≡ levels self.old };

@@ -90,6 +90,7 @@ fn refused(ready: Ready, refusal: DeskRefusal, cite: u64) -> Decision
 /// Asks the desk to commit a transaction whose votes are all there. After a fault the transaction comes back with what
 /// it read and wrote and with its votes, or ended where the desk said how it ended before.
 pub fn decide<A: Asker>(asker: &mut A, alloc: Global, voting: Voting) -> Decision
+    requires { voting.txn.levels ≡ A.levels asker.old }
     ensures asks { line.Follows (spec.decide_line voting)
         (A.told asker.old) (A.told asker.new) (line.ended_by result.answer result.txn) }
     ensures levels { states.levels_of result.txn ≡ voting.txn.levels }

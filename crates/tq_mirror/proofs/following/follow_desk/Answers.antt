@@ -9,8 +9,8 @@ use Rattle.tq_mirror.proofs.following.follow_desk.Goals as goal
 pub loop-entry-init : goal.loop-entry-init
 loop-entry-init c = λ prefixes kept. led_none (desk_grows prefixes kept.legal) c.args.tables prefixes kept.stand (desk_none prefixes)
 
-pub ask_desk-requires : goal.ask_desk-requires
-ask_desk-requires c =
+pub ask_desk-requires-clause-next : goal.ask_desk-requires-clause-next
+ask_desk-requires-clause-next c =
     let may = c.requires in
     may_ask_desk may.prefixes c.args.entries.now c.loop-entry.entry-index c.loop-entry-test.true may.few c.loop-entry.ahead (c.loop-entry.invariant may.prefixes may.kept)
 

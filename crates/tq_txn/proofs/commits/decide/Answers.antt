@@ -1,4 +1,6 @@
-use Rattle.std.proofs.Common.{◌∙◌, Ok, Err, rules, sym, ap, subst}
+use Rattle.std.proofs.Common.{◌∙◌, ℕ, Ok, Err, rules, sym, ap, subst}
+use Rattle.tq_desk.specs.DeskStep.{HasGoodEvidence}
+use Rattle.tq_desk.specs.declared.ask.DeskAsk.{DeskAsk}
 use Rattle.tq_txn_states.specs.Voting.{VotesOnly, VotingView}
 use Rattle.tq_txn.specs.declared.txn.Txn.TheVariants as states
 use Rattle.tq_txn.specs.Told.{IsEnding, answers_in}
@@ -6,6 +8,14 @@ use Rattle.tq_txn.proofs.CommitLaws.{decide_ready, ready_on, ending_answered, en
 use Rattle.tq_txn.proofs.KnownLaws.{cites_ask}
 use Rattle.tq_txn.proofs.LineLaws.{told_desk}
 use Rattle.tq_txn.proofs.commits.decide.Goals as goal
+
+pub desk-requires : goal.desk-requires
+desk-requires g c =
+    let ask = c.in-Ok-evidence.ask in
+    let ready = c.in-Ok.ready in
+    let levels = ap (λ (v : VotingView). v.txn.levels) c.in-Ok.ensures.succeeds.1 ∙ c.requires in
+    subst (λ (l : ℕ). HasGoodEvidence l ask) levels
+    (subst (λ (a : DeskAsk). HasGoodEvidence ready.txn.levels a) (sym c.in-Ok-evidence.ensures.value) c.in-Ok-evidence.ensures.good)
 
 pub decision_of-requires-clause-asked : goal.decision_of-requires-clause-asked
 decision_of-requires-clause-asked g c = c.in-Ok-desk.ensures.same ∙ c.in-Ok-evidence.ensures.value

@@ -1,18 +1,23 @@
-use Rattle.std.proofs.Common.{◌∙◌, ◌++◌, [], ◌∷◌, List, ap, length, refl}
+use Rattle.std.proofs.Common.{◌∙◌, ◌++◌, [], ◌∷◌, ℕ, List, ap, length, refl, subst, sym}
 use Rattle.tq_shape.specs.Journal.{entry}
 use Rattle.tq_shape.specs.declared.part.Part.TheVariants.{Desk}
 use Rattle.tq_desk.specs.DeskJournal.{DeskEntry}
 use Rattle.tq_tables.specs.Journals.{JournalsView}
 use Rattle.tq_core.specs.declared.answer.Step.TheVariants as steps
 use Rattle.tq_core.specs.Steps.{refuse_entry}
-use Rattle.tq_core.proofs.Standing.{desk_asked, not-refused}
+use Rattle.tq_core.proofs.Standing.{desk-levels, desk_asked, not-refused}
 use Rattle.tq_core.proofs.service.Service.ask_desk.Goals as goal
 
+pub ask_desk-requires-clause-judged : goal.ask_desk-requires-clause-judged
+ask_desk-requires-clause-judged g c =
+    let same = desk-levels c.self.inside.tabled.tables _ c.self.invariant ∙ ap (λ (w : JournalsView). w.levels) c.self.view_is in
+    subst (λ (levels : ℕ). g.J.Judge.takes levels c.args.ask) (sym same) c.requires
+
 pub invariant_of-self : goal.invariant_of-self
-invariant_of-self c = rw c.make_room.ensures.items c.self.invariant
+invariant_of-self g c = rw c.make_room.ensures.items c.self.invariant
 
 pub invariant_of-self-2 : goal.invariant_of-self-2
-invariant_of-self-2 c =
+invariant_of-self-2 g c =
     let now = c.args.self.now in
     let count = c.len-entries.ensures ∙ c.self.inside.tabled.desk.ok.0 in
     let refusal_is = c.refusal.ensures ∙ (λ i. refuse_entry now Desk ((count ∙ ap (λ (w : JournalsView). length w.desk) c.self.view_is) i) (c.unfounded_in_desk_ask-unfounded.ensures i)) in
@@ -23,7 +28,7 @@ invariant_of-self-2 c =
     c.in_ok-replies.ensures.asked _ refl made c.in_ok-replies.ensures.replies more).stands
 
 pub returns-clause-after : goal.returns-clause-after
-returns-clause-after c =
+returns-clause-after g c =
     let now = c.args.self.now in
     let count = c.len-entries.ensures ∙ c.self.inside.tabled.desk.ok.0 in
     let refusal_is = c.refusal.ensures ∙ (λ i. refuse_entry now Desk ((count ∙ ap (λ (w : JournalsView). length w.desk) c.self.view_is) i) (c.unfounded_in_desk_ask-unfounded.ensures i)) in

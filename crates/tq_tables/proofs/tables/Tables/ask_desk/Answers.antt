@@ -21,54 +21,59 @@ use Rattle.tq_tables.proofs.Restood.{exact-rows}
 use Rattle.tq_tables.proofs.Written.{entry-rows, of_tree-next, rows_next, version-room}
 use Rattle.tq_tables.proofs.tables.Tables.ask_desk.Goals as goal
 
-pub plan-requires : goal.plan-requires
-plan-requires c =
-    let view_is = (λ i. tables_at (c.deref_mut-parts.ensures.value i) (c.deref_mut-files.ensures.value i).rows) ∙ bare-is c.self.inside.followed.parts.value c.self.inside.followed.files.value.rows _ c.args.self.now c.self.view_is c.requires.journals c.requires.stand in
-    subst (λ (d : DeskView). d.begun + 1 < 2 ^ 64) (sym (c.desk.ensures ∙ ap (λ (t : TablesView). t.desk) view_is)) (begun-room c.args.self.now c.requires)
+pub plan-requires-clause-begun : goal.plan-requires-clause-begun
+plan-requires-clause-begun g c =
+    let view_is = (λ i. tables_at (c.deref_mut-parts.ensures.value i) (c.deref_mut-files.ensures.value i).rows) ∙ bare-is c.self.inside.followed.parts.value c.self.inside.followed.files.value.rows _ c.args.self.now c.self.view_is c.requires.next.journals c.requires.next.stand in
+    subst (λ (d : DeskView). d.begun + 1 < 2 ^ 64) (sym (c.desk.ensures ∙ ap (λ (t : TablesView). t.desk) view_is)) (begun-room c.args.self.now c.requires.next)
+
+pub plan-requires-clause-judged : goal.plan-requires-clause-judged
+plan-requires-clause-judged g c =
+    let view_is = (λ i. tables_at (c.deref_mut-parts.ensures.value i) (c.deref_mut-files.ensures.value i).rows) ∙ bare-is c.self.inside.followed.parts.value c.self.inside.followed.files.value.rows _ c.args.self.now c.self.view_is c.requires.next.journals c.requires.next.stand in
+    subst (λ (d : DeskView). g.J.Judge.takes d.levels c.args.ask.now) (sym (c.desk.ensures ∙ ap (λ (t : TablesView). t.desk) view_is)) c.requires.judged
 
 pub rows_written-requires-clause-exact : goal.rows_written-requires-clause-exact
-rows_written-requires-clause-exact c =
-    let view_is = (λ i. tables_at (c.deref_mut-parts.ensures.value i) (c.deref_mut-files.ensures.value i).rows) ∙ bare-is c.self.inside.followed.parts.value c.self.inside.followed.files.value.rows _ c.args.self.now c.self.view_is c.requires.journals c.requires.stand in
+rows_written-requires-clause-exact g c =
+    let view_is = (λ i. tables_at (c.deref_mut-parts.ensures.value i) (c.deref_mut-files.ensures.value i).rows) ∙ bare-is c.self.inside.followed.parts.value c.self.inside.followed.files.value.rows _ c.args.self.now c.self.view_is c.requires.next.journals c.requires.next.stand in
     let same = ap (λ (p : PartsView). p.view.levels) c.deref_mut-parts.ensures.value ∙ c.self.invariant.0.0 ∙ sym (ap (λ (f : FilesView). f.levels) c.deref_mut-files.ensures.value) in
-    let journals = c.requires.journals in
+    let journals = c.requires.next.journals in
     let parts = c.deref_mut-parts.result.now in
     let list = commits (reverse journals.desk) in
-    let are = rows-at parts c.deref_mut-files.result.now.rows c.args.self.now view_is journals c.requires.stand in
+    let are = rows-at parts c.deref_mut-files.result.now.rows c.args.self.now view_is journals c.requires.next.stand in
     let exact : spec.AreExact parts.view.levels parts.nodes c.deref_mut-files.result.now.rows =
     subst (λ (rows : List FileRow). spec.AreExact parts.view.levels parts.nodes rows) (sym are) (exact-rows parts.view.levels parts.nodes list (files_in list)) in
     subst (λ (levels : ℕ). spec.AreExact levels c.nodes.result.now c.deref_mut-files.result.now.rows) same
     (subst (λ (nodes : List NodeView). spec.AreExact parts.view.levels nodes c.deref_mut-files.result.now.rows) (sym c.nodes.ensures.value) exact)
 
 pub rows_written-requires-clause-room : goal.rows_written-requires-clause-room
-rows_written-requires-clause-room c = λ file.
-    let view_is = (λ i. tables_at (c.deref_mut-parts.ensures.value i) (c.deref_mut-files.ensures.value i).rows) ∙ bare-is c.self.inside.followed.parts.value c.self.inside.followed.files.value.rows _ c.args.self.now c.self.view_is c.requires.journals c.requires.stand in
-    let journals = c.requires.journals in
+rows_written-requires-clause-room g c = λ file.
+    let view_is = (λ i. tables_at (c.deref_mut-parts.ensures.value i) (c.deref_mut-files.ensures.value i).rows) ∙ bare-is c.self.inside.followed.parts.value c.self.inside.followed.files.value.rows _ c.args.self.now c.self.view_is c.requires.next.journals c.requires.next.stand in
+    let journals = c.requires.next.journals in
     let parts = c.deref_mut-parts.result.now in
-    let are = rows-at parts c.deref_mut-files.result.now.rows c.args.self.now view_is journals c.requires.stand in
+    let are = rows-at parts c.deref_mut-files.result.now.rows c.args.self.now view_is journals c.requires.next.stand in
     subst (λ (rows : List FileRow). spec.version_in rows file + 1 < 2 ^ 64) (sym are)
-    (version-room parts.view.levels parts.nodes (commits (reverse journals.desk)) (commits-room c.args.self.now c.requires) file)
+    (version-room parts.view.levels parts.nodes (commits (reverse journals.desk)) (commits-room c.args.self.now c.requires.next) file)
 
 pub rows_written-requires-clause-holders : goal.rows_written-requires-clause-holders
-rows_written-requires-clause-holders c =
+rows_written-requires-clause-holders g c =
     held-same (ap (λ (f : FilesView). f.levels) c.deref_mut-files.ensures.value) (c.nodes.ensures.value ∙ ap (λ (p : PartsView). p.nodes) c.deref_mut-parts.ensures.value)
     (ap (λ (f : FilesView). f.rows) c.deref_mut-files.ensures.value) c.deref.ensures c.self.invariant.0.1
 
 pub change_desk-requires : goal.change_desk-requires
-change_desk-requires c =
+change_desk-requires g c =
     let desk = c.deref_mut-parts.result.now.desk in
     subst (λ (change : DeskChange). DeskFits desk change)
     (sym (c.in_ok-plan.ensures.change ∙ ap (λ (d : DeskView). desk_change d c.args.ask.now) c.desk.ensures))
     (change_fits desk c.args.ask.now)
 
 pub put_all-requires-clause-of_tree : goal.put_all-requires-clause-of_tree
-put_all-requires-clause-of_tree c =
+put_all-requires-clause-of_tree g c =
     let levels = c.deref_mut-files.result.now.levels in
     subst (λ (l : ℕ). spec.AreOfLevels l c.in_ok-rows.rows.items) (sym c.in_ok-reserve.ensures.levels)
     (subst (λ (rows : List FileRow). spec.AreOfLevels levels rows) (sym c.in_ok-rows.ensures)
     (of_tree-next levels c.nodes.result.now c.deref_mut-files.result.now.rows (names_of c.committed_ops-ops.result.now)))
 
 pub invariant_of-self-2 : goal.invariant_of-self-2
-invariant_of-self-2 c =
+invariant_of-self-2 g c =
     let parts = c.deref_mut-parts.result.now in
     let same = ap (λ (p : PartsView). p.view.levels) c.deref_mut-parts.ensures.value ∙ c.self.invariant.0.0 ∙ sym (ap (λ (f : FilesView). f.levels) c.deref_mut-files.ensures.value) in
     let before =
@@ -81,11 +86,11 @@ invariant_of-self-2 c =
             (c.put_all.ensures.rows ∙ ap (λ (all : List FileRow). spec.with_rows all rows) c.in_ok-reserve.ensures.rows) refl
             (held-put _ parts.nodes c.deref_mut-files.result.now.rows rows c.self.inside.followed.holders.value before),
       ),
-      nothing-reserved _ c.self.inside.ready (nothing-kept c.self.inside.followed.parts.value c.self.inside.followed.files.value.rows _ c.args.self.now c.self.view_is c.requires.journals c.requires.stand),
+      nothing-reserved _ c.self.inside.ready (nothing-kept c.self.inside.followed.parts.value c.self.inside.followed.files.value.rows _ c.args.self.now c.self.view_is c.requires.next.journals c.requires.next.stand),
     )
 
 pub returns-clause-asked : goal.returns-clause-asked
-returns-clause-asked c = λ journals reply legal stand.
+returns-clause-asked g c = λ journals reply legal stand.
     let view_is = (λ i. tables_at (c.deref_mut-parts.ensures.value i) (c.deref_mut-files.ensures.value i).rows) ∙ bare-is c.self.inside.followed.parts.value c.self.inside.followed.files.value.rows _ c.args.self.now c.self.view_is journals stand in
     let same = ap (λ (p : PartsView). p.view.levels) c.deref_mut-parts.ensures.value ∙ c.self.invariant.0.0 ∙ sym (ap (λ (f : FilesView). f.levels) c.deref_mut-files.ensures.value) in
     let ask = c.args.ask.now in

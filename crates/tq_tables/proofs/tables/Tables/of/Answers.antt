@@ -29,8 +29,8 @@ loop-desk_entry-init c =
     let done : c.loop-view_entry.view_entry-index ≡ length c.args.journals.now.view = omega (arith, count, past, most) in
     c.loop-view_entry.invariant ∙ ap (λ (n : ℕ). tables_of (until c.args.journals.now n 0 0 0)) done
 
-pub ask_desk-requires : goal.ask_desk-requires
-ask_desk-requires c =
+pub ask_desk-requires-clause-next : goal.ask_desk-requires-clause-next
+ask_desk-requires-clause-next c =
     let journals = c.args.journals.now in
     let i = c.loop-desk_entry.desk_entry-index in
     let all = c.desk-desk_entry-items.ensures.value in
