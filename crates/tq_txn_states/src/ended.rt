@@ -100,6 +100,7 @@ impl Ended {
     }
 
     /// The ask that tells a server how it ended.
+    #[inline(always)]
     pub fn decide(&self, alloc: Global) -> Result<NodeAsk, Memory>
         ensures { IfOk result (λ ask. ask ≡ spec.decide_ask self.now) }
     {
@@ -188,14 +189,12 @@ fn resolve_verdict(reply: &DeskReply) -> Result<Option<Verdict>, Memory>
 pub(crate) fn cited_votes(alloc: Global, votes: &[Vote]) -> Result<Vec<CitedVote>, Memory>
     ensures { IfOk result (λ list. list.items ≡ log.cited_votes votes.now) }
 {
-    votes.iter().map(|vote| citation(vote)).collect(alloc)
-}
-
-fn citation(vote: &Vote) -> CitedVote
-    ensures { result ≡ log.citation vote.now }
-{
-    CitedVote {
-        server: vote.server,
-        number: vote.number,
+    let mut cited = Vec::with_capacity(alloc, votes.len())?;
+    for vote in votes {
+        cited.push_reserved(CitedVote {
+            server: vote.server,
+            number: vote.number,
+        });
     }
+    Ok(cited)
 }

@@ -14,7 +14,7 @@ ghost use Rattle.tq_txn_states.specs.Ended as ending;
 
 use crate::ended::verdict_of;
 use crate::grants::{ReadTwice, grants_of, read_twice};
-use crate::servers::Servers;
+use crate::servers::{Servers, put_at};
 use crate::{DeskTold, Ended, NodeTold, TxnFault, Voting};
 use std::alloc::Global;
 use std::marker::Model;
@@ -194,6 +194,7 @@ impl Open {
 
     /// Reads a file by the grants of a quorum: the first copy of the greatest version granted. Out of memory leaves the
     /// transaction as it was.
+    #[inline(always)]
     pub fn read_granted(&mut self, file: &FileName, grants: Vec<Grant>) -> Result<FileCopy, Memory>
         requires fresh { spec.is_used self.old.ops file.now ≡ false }
         requires member { spec.is_member self.old.levels grants.items ≡ true }
@@ -220,6 +221,7 @@ impl Open {
 
     /// Writes a file by the exclusive grants of a quorum: the version is one above the greatest granted. A fault leaves
     /// the transaction as it was.
+    #[inline(always)]
     pub fn write_granted(
         &mut self,
         file: &FileName,
@@ -359,6 +361,7 @@ impl Open {
         touched
     }
 
+    #[inline(always)]
     pub(crate) fn copy_ops(&self) -> Result<SharedSeq<Op>, Memory>
         ensures { IfOk result (λ ops. ops ≡ self.now.ops) }
     {
@@ -403,6 +406,7 @@ impl Open {
     }
 
     /// Takes an operation. Out of memory leaves the transaction as it was.
+    #[inline(always)]
     fn take(&mut self, op: Op) -> Result<(), Memory>
         requires { spec.IsGoodOp self.old op }
         ensures after { OnOk result (self.new ≡ spec.txn_after_op self.old op) }
@@ -463,12 +467,13 @@ fn share_grants(grants: Vec<Grant>) -> Shareable<Grant>
 }
 
 /// Puts the operation before those of later files, in a list that has room.
+#[inline(always)]
 fn put_in_order(ops: &mut Vec<Op>, op: Op)
     requires { vec_len ops.old < vec_capacity ops.old }
     ensures { ops.new.items ≡ spec.with_op ops.old.items op }
 {
     let place = place_of(ops.as_slice(), &op.file);
-    let _room_was_made = ops.insert(place, op);
+    put_at(ops, place, op);
 }
 
 /// The place of the first operation on a later file, or the end.

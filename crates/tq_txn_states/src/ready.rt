@@ -64,6 +64,7 @@ impl Ready {
     }
 
     /// The commit to ask the desk for: its evidence is good, and cites only what the transaction was told.
+    #[inline(always)]
     pub fn evidence(&self, _alloc: Global) -> Result<DeskAsk, Memory>
         ensures value { IfOk result (λ ask. ask ≡ spec.evidence_of self.now) }
         ensures cited { IfOk result (λ ask.
@@ -83,6 +84,7 @@ impl Ready {
 
     /// The votes as the commit's record cites them: made before the commit is asked for, so that the answer takes no
     /// memory.
+    #[inline(always)]
     pub fn citations(&self, alloc: Global) -> Result<SharedSeq<CitedVote>, Memory>
         ensures { IfOk result (λ list. list ≡ log.cited_votes self.now.votes) }
     {

@@ -78,6 +78,7 @@ impl Servers {
     }
 
     /// Puts a server at its place, if it is not there: likely this place. It takes no memory.
+    #[inline(always)]
     pub(crate) fn put(&mut self, server: ServerId, likely: usize)
         requires tree { server.levels ≡ self.old.levels }
         requires room { 1 ≤ self.old.room }

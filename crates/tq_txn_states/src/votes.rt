@@ -123,10 +123,11 @@ pub(crate) fn writes_at(alloc: Global, ops: &[Op], server: u64) -> Result<Shared
     requires { open_spec.have_order ops.now ≡ true }
     ensures { IfOk result (λ writes. writes ≡ spec.writes_at ops.now server) }
 {
-    let mut writes = Vec::with_capacity(alloc, ops.len())?;
+    let mut writes = Vec::new(alloc);
     for op in ops {
         if op.is_write() && has_server_at(op, server, 0) {
-            writes.push(write_in(op)?)?;
+            writes.reserve_exact(1)?;
+            writes.push_reserved(write_in(op)?);
         }
     }
     Ok(SharedSeq::from_vec(writes)?)
@@ -177,6 +178,7 @@ pub(crate) fn writes_all_at(ops: &[Op], server: u64, place: usize) -> bool
 }
 
 /// Whether the writes voted are those of the operations at the server: its grants likely stand at the place.
+#[inline(always)]
 pub(crate) fn are_writes_at(server: u64, voted: &[Write], ops: &[Op], place: usize) -> bool
     requires { open_spec.have_order ops.now ≡ true }
     ensures { result ≡ evidence.are_writes_at server voted.now (spec.writes_in ops.now) }

@@ -99,6 +99,7 @@ impl Voting {
     }
 
     /// The ask for a voter's vote. Memory is taken for a voter alone.
+    #[inline(always)]
     pub fn ask(&self, alloc: Global, server: ServerId) -> Result<NodeAsk, TxnFault>
         ensures succeeds { IfOk result (λ ask. spec.ask_fault self.now.txn server.number ≡ None) }
         ensures value { IfOk result (λ ask. ask ≡ spec.prepare_ask self.now.txn server.number) }
@@ -150,6 +151,7 @@ impl Voting {
     }
 
     /// The work that a server is asked for its vote.
+    #[inline(always)]
     fn work_at(&self, alloc: Global, server: u64) -> Result<WorkAsk, Memory>
         ensures { IfOk result (λ work. work ≡ spec.prepare_work self.now.txn server) }
     {
@@ -182,6 +184,7 @@ impl Voting {
 
     /// Takes the vote that an answer tells of, in place of one of its server that is there. A fault leaves the
     /// transaction as it was.
+    #[inline(always)]
     pub fn vote_by(&mut self, told: NodeTold) -> Result<(), TxnFault>
         ensures vote { TakesVote self.old told self.new result }
         ensures fault { IfErr result (ComesOf (vote_fault self.old told)) }
@@ -225,12 +228,13 @@ impl Voting {
         copy_of(&self.votes)
     }
 
-    /// Keeps the ask of a server, if it has all that the transaction writes and none is kept. It takes no memory.
+    /// Keeps the ask of a server, if it has all that the transaction writes, none is kept and a voter has not voted. It
+    /// takes no memory.
     #[inline(always)]
     fn keep(&mut self, server: u64, asked: NodeAsk)
         ensures { self.new ≡ self.old }
     {
-        if self.asked.is_some() {
+        if self.asked.is_some() || self.votes.len() >= self.txn.voters().len() {
             return;
         }
         let ops = self.txn.ops();
@@ -243,6 +247,7 @@ impl Voting {
     }
 
     /// Ends the voting, if each voter's vote is there. It takes no memory.
+    #[inline(always)]
     pub fn ready(self) -> Result<Ready, (Voting, TxnFault)>
         ensures succeeds { IfOk result (λ ready. (spec.ready_fault self ≡ None) × (ready ≡ self)) }
         ensures fault { IfErr result (IsBack self (λ fault. spec.ready_fault self ≡ Some fault)) }
@@ -265,6 +270,7 @@ impl Voting {
     }
 
     /// Ends the transaction by a verdict on it, which the desk's entry of that number told. It takes no memory.
+    #[inline(always)]
     pub fn end_by(self, verdict: Verdict, cite: u64) -> Ended
         ensures { result ≡ ending.ended_with self.txn cite verdict }
     {

@@ -10,7 +10,6 @@ use Rattle.tq_txn_states.proofs.open.put_in_order.Goals as goal
 pub returns : goal.returns
 returns c =
     let later = λ (other : Op). is_lt (name_cmp c.args.op.file other.file) in
-    let is_there = rw (c.insert-room_was_made.ensures.succeeds c.requires) at c.insert-room_was_made.ensures.items in
-    is_there
+    c.put_at.ensures.items
     ∙ ap (λ place. insert c.args.ops.now.items place c.args.op) (c.place_of-place.ensures.value ∙ ap (place_before later) c.as_slice.ensures.value)
     ∙ insert_before later c.args.op c.args.ops.now.items
