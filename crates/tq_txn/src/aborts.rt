@@ -16,6 +16,7 @@ use tq_shape::Part;
 
 /// The transaction as a verdict on it ends it, which the desk's entry of that number told; one that has ended keeps its
 /// own. It takes no memory.
+#[inline(always)]
 fn ended_by(txn: Txn, verdict: Verdict, cite: u64) -> Ended
     ensures { Txn.Ended result ≡ spec.resolved_with txn cite (Some verdict) }
 {

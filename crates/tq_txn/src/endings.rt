@@ -27,6 +27,7 @@ fn refusal_in(reply: &NodeReply) -> Option<NodeRefusal>
 
 /// A voter's vote; one that is there is answered with no ask. No vote gathered is lost, and after a fault the
 /// transaction is as it was.
+#[inline(always)]
 pub fn prepare_at<A: Asker>(
     asker: &mut A,
     alloc: Global,
@@ -79,6 +80,7 @@ fn take_vote(voting: &mut Voting, told: NodeTold) -> Result<(), LineFault>
 }
 
 /// One ask of a server, of which any answer is taken: its reply, or none where the ask was not taken.
+#[inline(always)]
 pub fn ask_any<A: Asker>(
     asker: &mut A,
     alloc: Global,
@@ -183,6 +185,7 @@ fn end_by<A: Asker>(
 }
 
 /// Tells each of the servers the verdict, in their order. Where there is none it takes no memory.
+#[inline(always)]
 pub(crate) fn end_at_each<A: Asker>(
     asker: &mut A,
     alloc: Global,
