@@ -56,6 +56,7 @@ impl Model for Ended {
 
 impl Ended {
     /// The transaction as a verdict ends it, which the desk's entry of that number told. It takes no memory.
+    #[inline(always)]
     pub(crate) fn of(txn: Open, verdict: Verdict, cite: u64) -> Ended
         ensures { result ≡ spec.ended_with txn cite verdict }
     {
@@ -186,6 +187,7 @@ fn resolve_verdict(reply: &DeskReply) -> Result<Option<Verdict>, Memory>
 }
 
 /// The votes as a commit's record cites them.
+#[inline(always)]
 pub(crate) fn cited_votes(alloc: Global, votes: &[Vote]) -> Result<Vec<CitedVote>, Memory>
     ensures { IfOk result (λ list. list.items ≡ log.cited_votes votes.now) }
 {

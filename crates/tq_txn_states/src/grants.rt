@@ -109,6 +109,7 @@ pub(crate) struct ReadTwice {
 }
 
 /// What is read by the grants, with its content once more.
+#[inline(always)]
 pub(crate) fn read_twice(grants: &[Grant]) -> Result<ReadTwice, Memory>
     ensures copy { IfOk result (λ read. read.copy ≡ spec.read_copy grants.now) }
     ensures kept { IfOk result (λ read. read.kept ≡ (spec.read_copy grants.now).content) }

@@ -182,6 +182,7 @@ impl Open {
     }
 
     /// The same of a server that likely stands at this place among those noted, or goes there.
+    #[inline(always)]
     pub fn touch_near(&mut self, server: ServerId, likely: usize) -> Result<(), Memory>
         requires { server.levels ≡ self.old.levels }
         ensures ok { OnOk result (self.new ≡ spec.touched_by self.old server.number) }
@@ -502,6 +503,7 @@ fn is_later(file: &FileName, op: &Op) -> bool
 }
 
 /// The list that a vector holds, once more.
+#[inline(always)]
 pub(crate) fn copy_of<T: ExactClone>(items: &Vec<T>) -> Result<SharedSeq<T>, Memory>
     ensures { IfOk result (λ list. list ≡ items.now.items) }
 {

@@ -119,6 +119,7 @@ fn has_server_at(op: &Op, server: u64, likely: usize) -> bool
 }
 
 /// What the operations write at a server, by file.
+#[inline(always)]
 pub(crate) fn writes_at(alloc: Global, ops: &[Op], server: u64) -> Result<SharedSeq<Write>, Memory>
     requires { open_spec.have_order ops.now ≡ true }
     ensures { IfOk result (λ writes. writes ≡ spec.writes_at ops.now server) }
@@ -201,24 +202,19 @@ pub(crate) fn are_writes_at(server: u64, voted: &[Write], ops: &[Op], place: usi
 
 /// The least file of which the vote does not cover a grant. The grants of its server likely stand at the place, and the
 /// vote's locks where the operations stand.
-pub(crate) fn lost_file<'a>(
-    ops: &'a [Op],
-    vote: &Vote,
-    place: usize,
-    lock: usize,
-) -> Option<&'a FileName>
+#[inline(always)]
+pub(crate) fn lost_file<'a>(ops: &'a [Op], vote: &Vote, place: usize) -> Option<&'a FileName>
     requires { open_spec.have_order ops.now ≡ true }
     ensures { option_copied result ≡ spec.lost_file ops.now vote.now }
 {
-    match ops {
-        [] => None,
-        [op, ..] => {
-            if !covers_op(vote, op, place, lock) {
-                return Some(&op.file);
-            }
-            lost_file(&ops[1..], vote, place, lock.wrapping_add(1))
+    let mut lock = 0;
+    for op in ops {
+        if !covers_op(vote, op, place, lock) {
+            return Some(&op.file);
         }
+        lock += 1;
     }
+    None
 }
 
 /// Whether the vote covers the grants of its server, of which there is one at most.
@@ -290,6 +286,7 @@ pub(crate) fn has_votes(votes: &[Vote], voters: &[ServerId]) -> bool
 }
 
 /// Puts a vote at its place, instead of one of its server that is there, in a list that has room.
+#[inline(always)]
 pub(crate) fn put_vote(votes: &mut Vec<Vote>, vote: Vote)
     requires rise { evidence.votes_rise votes.old.items ≡ true }
     requires room { vec_len votes.old < vec_capacity votes.old }

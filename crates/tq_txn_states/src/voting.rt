@@ -125,6 +125,7 @@ impl Voting {
     }
 
     /// The ask for the server's vote, where it is the one that is kept. Its grants likely stand at the place.
+    #[inline(always)]
     fn asked_before(&self, server: u64, place: usize) -> Result<Option<NodeAsk>, Memory>
         ensures { IfOk result (λ it. IfSome it (λ ask. ask ≡ prepare_ask self.now.txn server)) }
     {
@@ -199,6 +200,7 @@ impl Voting {
     }
 
     /// The vote that an answer tells of, if it is good evidence.
+    #[inline(always)]
     fn cast_by(&self, told: NodeTold) -> Result<Cast, TxnFault>
         ensures good { IfOk result (λ cast. spec.IsGoodVote self.now.txn.ops cast.vote) }
         ensures vote { IfOk result (λ cast. spec.vote_of self.now.txn.txn told ≡ Some cast.vote) }
@@ -216,12 +218,13 @@ impl Voting {
         if !are_writes_at(vote.server, vote.writes.as_slice(), ops, place) {
             return Err(TxnFault::NotMyVote);
         }
-        if let Some(file) = lost_file(ops, vote, place, 0) {
+        if let Some(file) = lost_file(ops, vote, place) {
             return Err(TxnFault::LostLock { file: *file });
         }
         Ok(cast)
     }
 
+    #[inline(always)]
     pub(crate) fn copy_votes(&self) -> Result<SharedSeq<Vote>, Memory>
         ensures { IfOk result (λ votes. votes ≡ self.now.votes) }
     {
