@@ -162,8 +162,8 @@ finite-signed false num den some small = below-great num den some small
 finite-signed true num den some small =
     ap float_is_finite (sym (neg-round binary64 num den)) ∙ (finite-neg (round binary64 false num den) ∙ below-great num den some small)
 
-pub small-finite : (is_negative : Bool) (p : Parts) → digits_of p * 10 ^ tens_up p ≤ 10 ^ 308 * 10 ^ tens_down p → true ≡ is_some (float_of is_negative p)
-small-finite is_negative p small = rw (finite-signed is_negative (digits_of p * 10 ^ tens_up p) (10 ^ tens_down p) (ten_to_pos (tens_down p)) small) refl
+pub small_finite : (is_negative : Bool) (p : Parts) → digits_of p * 10 ^ tens_up p ≤ 10 ^ 308 * 10 ^ tens_down p → true ≡ is_some (float_of is_negative p)
+small_finite is_negative p small = rw (finite-signed is_negative (digits_of p * 10 ^ tens_up p) (10 ^ tens_down p) (ten_to_pos (tens_down p)) small) refl
 
 -- so many digits, moved up and down by tens
 moved : (digits count up down most : ℕ) → digits < 10 ^ count → count + up ≤ most + down → digits * 10 ^ up ≤ 10 ^ most * 10 ^ down

@@ -1,6 +1,4 @@
 pub mod Contents
-pub mod Loops
 pub mod Nexts
 pub mod Lexemes
-pub mod Runs
 pub mod Marks

@@ -1,15 +1,16 @@
--- The items and the members of a reader, one at a time. The next value by its first token, and what is refused with a
--- part of it. Passing over what is open, value by value, with the kinds of all that are open in the bits of a number.
-use Rattle.std.proofs.Common.{◌≡◌, ℕ, zero, suc, ◌-◌, ◌<◌, ◌≤◌, List, [], ◌∷◌, length, Option, Some, None, refl, sym, ap, ◌∙◌, arith, Bool, Result, Ok, Err, true, false, subst, rules, ◌+◌, ◌*◌, ◌/◌, ◌%◌, ◌^◌, ◌==◌, not, cond}
-use Rattle.std.specs.Option.{option_and_then, is_some, option_map}
+-- Lists of values of one form, value by value: the grammar's loops, a turn at a time, under the conversion to data. The items and
+-- the members of a reader, one at a time. The next value by its first token, and what is refused with a part of it. Passing over
+-- what is open, value by value, with the kinds of all that are open in the bits of a number.
+use Rattle.std.proofs.Common.{◌≡◌, List, [], ◌++◌, Option, Some, None, refl, ℕ, zero, suc, ◌-◌, ◌<◌, ◌≤◌, length, option_map, option_and_then, ap, ◌∙◌, ◌∷◌, sym, arith, Bool, Result, Ok, Err, true, false, subst, rules, ◌+◌, ◌*◌, ◌/◌, ◌%◌, ◌^◌, ◌==◌, not, cond}
 use Rattle.json.specs.Token.{Token}
 use Rattle.json.specs.Json as json
-use Rattle.json.specs.Json.{Parse, parse_map, after_end_array, read_key, items_step, members_step, items, members, value}
-use Rattle.json.proofs.Grammar.{left, read_key-shorter, skip_value-shorter, items_fail, members_no_key, left_some, value_is, value-begin_array, value-begin_object, left-parse_map}
-use Rattle.serde_json.specs.Data.{Data, no_items, item, Members, put, Num, null, boolean, number, string, array, object, Items, no_members}
+use Rattle.json.specs.Json.{Parse, parse_map, after_end_array, read_key, items_step, items, members, if_last, members_step, value}
+use Rattle.json.proofs.Grammar as grammar
+use Rattle.json.proofs.Grammar.{items_more, members_no_key, members_more, left, read_key-shorter, skip_value-shorter, items_fail, left_some, value_is, value-begin_array, value-begin_object, left-parse_map}
+use Rattle.serde_json.specs.Data.{Data, array, object, no_items, item, Members, no_members, put, Num, null, boolean, number, string, Items}
 use Rattle.serde_json.specs.Read.{of_json, of_items, of_members, converted, number_of}
+use Rattle.std.specs.Option.{option_and_then, is_some, option_map}
 use Rattle.tq_json.specs.Next.{next, next_items, next_members, Found, HasNoNames, behind, tokens_behind, tokens_behind_next, Begins, Ends, GoesOn, Fails}
-use Rattle.tq_json.proofs.Loops.{item_read, item_refused, items_over, member_read, member_refused, key_refused, members_over, converted_some, converted-array, converted-object}
 use Rattle.std.specs.Prelude.{⊤, IfOk}
 use Rattle.std.specs.Borrow.{Bor}
 use Rattle.json.specs.Reads.{token_of}
@@ -22,6 +23,104 @@ use mir.Val.{bool_byte}
 use Rattle.std.proofs.lemmas.Simd.{mask_l-lt}
 use Rattle.std.proofs.Math.Nat.{pow-le-pow_right}
 use Rattle.std.specs.Bool.{MatchBool}
+
+-- what was read so far, before the rest
+abbrev pub with_front : {A : Type 0} → List A → Option (List A) → Option (List A)
+with_front front None = None
+with_front front (Some rest) = Some (front ++ rest)
+
+pub no_front : {A : Type 0} (o : Option (List A)) → with_front [] o ≡ o
+no_front None = refl
+no_front (Some rest) = refl
+
+-- ---- loops
+
+abbrev pick : {A : Type 0} → A → Option A → A
+pick d None = d
+pick d (Some a) = a
+
+found : {A B : Type 0} (a : A) (r s : List Token) (x : Option B) (b : B) → option_map {U = B × List Token} (λ y. (y, r)) x ≡ Some (b, s) → (r ≡ s) × (x ≡ Some b)
+found a r s None b e = absurd (cc)
+found a r s (Some y) b e = let same = ap (pick (y, r)) e in (ap (λ p. p.1) same, ap (λ p. Some p.0) same)
+
+pub converted_some : {A B : Type 0} (f : A → Option B) (o : Option (A × List Token)) (b : B) (r : List Token) → converted f o ≡ Some (b, r) → (a : A) × (o ≡ Some (a, r)) × (f a ≡ Some b)
+converted_some f None b r e = absurd (cc)
+converted_some f (Some p) b r e = let both = found p.0 p.1 r (f p.0) b e in (p.0, ap (λ s. Some (p.0, s)) both.0, both.1)
+
+not_made : {B : Type 0} (r : List Token) (x : Option B) → option_map {U = B × List Token} (λ y. (y, r)) x ≡ None → x ≡ None
+not_made r None e = refl
+not_made r (Some y) e = absurd (cc)
+
+twice : {A B : Type 0} (g : A → B) (r : List Token) (x : Option A) → option_map (λ b. (b, r)) (option_map g x) ≡ parse_map g (option_map (λ a. (a, r)) x)
+twice g r None = refl
+twice g r (Some a) = refl
+
+pub converted-array : (o : Option (json.Items × List Token)) → converted of_json (parse_map json.array o) ≡ parse_map array (converted of_items o)
+converted-array None = refl
+converted-array (Some p) = twice array p.1 (of_items p.0)
+
+pub converted-object : (o : Option (json.Members × List Token)) → converted of_json (parse_map json.object o) ≡ parse_map object (converted (λ ms. of_members ms no_members) o)
+converted-object None = refl
+converted-object (Some p) = twice object p.1 (of_members p.0 no_members)
+
+with_item : (j : json.Json) (d : Data) → of_json j ≡ Some d → (o : Option (json.Items × List Token)) → converted of_items (parse_map (json.item j) o) ≡ parse_map (item d) (converted of_items o)
+with_item j d e None = refl
+with_item j d e (Some p) = rw e (twice (item d) p.1 (of_items p.0))
+
+without_item : (j : json.Json) → of_json j ≡ None → (o : Option (json.Items × List Token)) → converted of_items (parse_map (json.item j) o) ≡ None
+without_item j e None = refl
+without_item j e (Some p) = rw e
+
+with_member : (k : List ℕ) (j : json.Json) (d : Data) (old : Members) → of_json j ≡ Some d → (o : Option (json.Members × List Token))
+    → converted (λ ms. of_members ms old) (parse_map (json.member k j) o) ≡ converted (λ ms. of_members ms (put k d old)) o
+with_member k j d old e None = refl
+with_member k j d old e (Some p) = rw e
+
+without_member : (k : List ℕ) (j : json.Json) (old : Members) → of_json j ≡ None → (o : Option (json.Members × List Token)) → converted (λ ms. of_members ms old) (parse_map (json.member k j) o) ≡ None
+without_member k j old e None = refl
+without_member k j old e (Some p) = rw e
+
+module _ (p : Parse json.Json) where
+  pub item_read : (n : ℕ) (ts r : List Token) (d : Data) → 0 < n → after_end_array ts ≡ None → converted of_json (p ts) ≡ Some (d, r)
+      → converted of_items (items p n ts) ≡ parse_map (item d) (converted of_items (items p (n - 1) r))
+  item_read n ts r d some going e = let j = converted_some of_json (p ts) d r e in ap (converted of_items) (items_more p n ts r j.0 some going j.1) ∙ with_item j.0 d j.2 _
+
+  no_item : (more : Parse json.Items) (o : Option (json.Json × List Token)) → converted of_json o ≡ None → converted of_items (option_and_then (λ q. parse_map (json.item q.0) (more q.1)) o) ≡ None
+  no_item more None e = refl
+  no_item more (Some q) e = without_item q.0 (not_made q.1 (of_json q.0) e) (more q.1)
+
+  pub item_refused : (n : ℕ) (ts : List Token) → after_end_array ts ≡ None → converted of_json (p ts) ≡ None → converted of_items (items p n ts) ≡ None
+  unfolding items
+  item_refused zero ts going e = refl
+  item_refused (suc n) ts going e = ap (λ o. converted of_items (items_step p (items p n) ts o)) going ∙ no_item (items p n) (p ts) e
+
+  pub items_over : (n : ℕ) (ts r : List Token) → length ts ≤ n → after_end_array ts ≡ Some r → converted of_items (items p n ts) ≡ Some (no_items, r)
+  items_over n ts r enough e = ap (converted of_items) (grammar.items_end p n ts r enough e)
+
+  module _ (old : Members) where
+    pub member_read : (n : ℕ) (k : List ℕ) (ts s r : List Token) (d : Data) → 0 < n → read_key ts ≡ Some (Some k, s) → converted of_json (p s) ≡ Some (d, r)
+        → converted (λ ms. of_members ms old) (members p n ts) ≡ converted (λ ms. of_members ms (put k d old)) (members p (n - 1) r)
+    member_read n k ts s r d some key e =
+        let j = converted_some of_json (p s) d r e in
+        ap (converted (λ ms. of_members ms old)) (members_more p n k ts s r j.0 some key j.1) ∙ with_member k j.0 d old j.2 _
+
+    no_member : (k : List ℕ) (more : Parse json.Members) (o : Option (json.Json × List Token)) → converted of_json o ≡ None
+        → converted (λ ms. of_members ms old) (option_and_then (λ q. parse_map (json.member k q.0) (more q.1)) o) ≡ None
+    no_member k more None e = refl
+    no_member k more (Some q) e = without_member k q.0 old (not_made q.1 (of_json q.0) e) (more q.1)
+
+    pub member_refused : (n : ℕ) (k : List ℕ) (ts s : List Token) → read_key ts ≡ Some (Some k, s) → converted of_json (p s) ≡ None → converted (λ ms. of_members ms old) (members p n ts) ≡ None
+    unfolding members
+    member_refused zero k ts s key e = refl
+    member_refused (suc n) k ts s key e = rw key (no_member k (members p n) (p s) e)
+
+    pub key_refused : (n : ℕ) (ts : List Token) → read_key ts ≡ None → converted (λ ms. of_members ms old) (members p n ts) ≡ None
+    key_refused n ts e = ap (converted (λ ms. of_members ms old)) (members_no_key p n ts e)
+
+    pub members_over : (n : ℕ) (ts r : List Token) → length ts ≤ n → read_key ts ≡ Some (None, r) → converted (λ ms. of_members ms old) (members p n ts) ≡ Some (old, r)
+    members_over n ts r enough e = ap (converted (λ ms. of_members ms old)) (grammar.members_end p n ts r enough e)
+
+-- ---- nexts
 
 -- ---- the count of turns plays no part, where it is enough
 
@@ -128,8 +227,8 @@ members_end old depth ts r e = members_over (value depth) old (length ts) ts r (
 
 -- ---- by the first token
 
-pub next-nil : (depth : ℕ) → next depth [] ≡ None
-next-nil depth = ap (converted of_json) (value_is depth [])
+pub next_nil : (depth : ℕ) → next depth [] ≡ None
+next_nil depth = ap (converted of_json) (value_is depth [])
 
 pub next-string : (depth : ℕ) (s : List ℕ) (ts : List Token) → next depth (Token.string s ∷ ts) ≡ Some (string s, ts)
 next-string depth s ts = ap (converted of_json) (value_is depth (Token.string s ∷ ts))
@@ -154,11 +253,11 @@ pub next-too_deep-object : (depth : ℕ) (ts : List Token) → depth ≡ 0 → n
 unfolding value
 next-too_deep-object depth ts e = ap (λ d. next d (Token.begin_object ∷ ts)) e
 
-pub next-begin_array : (depth : ℕ) (ts : List Token) → 0 < depth → next depth (Token.begin_array ∷ ts) ≡ parse_map array (next_items (depth - 1) ts)
-next-begin_array depth ts h = ap (converted of_json) (value-begin_array depth ts h) ∙ converted-array (items (value (depth - 1)) (length ts) ts)
+pub next_begin_array : (depth : ℕ) (ts : List Token) → 0 < depth → next depth (Token.begin_array ∷ ts) ≡ parse_map array (next_items (depth - 1) ts)
+next_begin_array depth ts h = ap (converted of_json) (value-begin_array depth ts h) ∙ converted-array (items (value (depth - 1)) (length ts) ts)
 
-pub next-begin_object : (depth : ℕ) (ts : List Token) → 0 < depth → next depth (Token.begin_object ∷ ts) ≡ parse_map object (next_members (depth - 1) ts)
-next-begin_object depth ts h = ap (converted of_json) (value-begin_object depth ts h) ∙ converted-object (members (value (depth - 1)) (length ts) ts)
+pub next_begin_object : (depth : ℕ) (ts : List Token) → 0 < depth → next depth (Token.begin_object ∷ ts) ≡ parse_map object (next_members (depth - 1) ts)
+next_begin_object depth ts h = ap (converted of_json) (value-begin_object depth ts h) ∙ converted-object (members (value (depth - 1)) (length ts) ts)
 
 -- ---- numbers
 
@@ -215,12 +314,12 @@ module _ (Q : Data → Type 0) where
   pub of_token : (t : read.Token) (depth : ℕ) (ts r : List Token) (d : Data) → next depth (token_of t ∷ ts) ≡ Some (d, r) → OfAll Q t → Q d
   of_token kinds.BeginObject zero ts r d e all = no_next Token.begin_object zero ts r d (Q d) (next-too_deep-object zero ts refl) e
   of_token kinds.BeginObject (suc n) ts r d e all =
-      let m = mapped_some object (next_members (suc n - 1) ts) d r (sym (next-begin_object (suc n) ts (omega arith)) ∙ e) in
+      let m = mapped_some object (next_members (suc n - 1) ts) d r (sym (next_begin_object (suc n) ts (omega arith)) ∙ e) in
       subst Q m.1 (all m.0)
   of_token kinds.EndObject depth ts r d e all = no_next Token.end_object depth ts r d (Q d) (ap (converted of_json) (value_is depth (Token.end_object ∷ ts))) e
   of_token kinds.BeginArray zero ts r d e all = no_next Token.begin_array zero ts r d (Q d) (next-too_deep-array zero ts refl) e
   of_token kinds.BeginArray (suc n) ts r d e all =
-      let m = mapped_some array (next_items (suc n - 1) ts) d r (sym (next-begin_array (suc n) ts (omega arith)) ∙ e) in
+      let m = mapped_some array (next_items (suc n - 1) ts) d r (sym (next_begin_array (suc n) ts (omega arith)) ∙ e) in
       subst Q m.1 (all m.0)
   of_token kinds.EndArray depth ts r d e all = no_next Token.end_array depth ts r d (Q d) (ap (converted of_json) (value_is depth (Token.end_array ∷ ts))) e
   of_token (kinds.Key s) depth ts r d e all = no_next (Token.key s.now) depth ts r d (Q d) (ap (converted of_json) (value_is depth (Token.key s.now ∷ ts))) e
@@ -316,13 +415,13 @@ pub array_begins : Begins Token.begin_array (Some false)
 array_begins zero ts = ap behind (next-too_deep-array zero ts refl)
 array_begins (suc depth) ts =
     let same : suc depth - 1 ≡ depth = omega arith in
-    ap behind (next-begin_array (suc depth) ts (omega arith)) ∙ left-parse_map array (next_items (suc depth - 1) ts) ∙ ap (λ d. behind (next_items d ts)) same
+    ap behind (next_begin_array (suc depth) ts (omega arith)) ∙ left-parse_map array (next_items (suc depth - 1) ts) ∙ ap (λ d. behind (next_items d ts)) same
 
 pub object_begins : Begins Token.begin_object (Some true)
 object_begins zero ts = ap behind (next-too_deep-object zero ts refl)
 object_begins (suc depth) ts =
     let same : suc depth - 1 ≡ depth = omega arith in
-    ap behind (next-begin_object (suc depth) ts (omega arith)) ∙ left-parse_map object (next_members (suc depth - 1) ts) ∙ ap (λ d. behind (next_members d ts)) same
+    ap behind (next_begin_object (suc depth) ts (omega arith)) ∙ left-parse_map object (next_members (suc depth - 1) ts) ∙ ap (λ d. behind (next_members d ts)) same
 
 opened_at : (kind : Bool) (depth : ℕ) (ts : List Token) → 0 < depth → tokens_behind_next kind depth ts ≡ tokens_behind kind (depth - 1) ts
 opened_at kind zero ts h = let never : ⊥ = omega arith in absurd never

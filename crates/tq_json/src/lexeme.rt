@@ -36,6 +36,7 @@ fn after_spaces_slowly(text: &str) -> &str
     &text[place..]
 }
 
+/// Whether the byte is a space between lexemes.
 #[inline(always)]
 fn is_space(byte: u8) -> bool
     ensures { result ≡ is_space byte }
@@ -135,6 +136,7 @@ pub(crate) fn number_first(text: &[u8]) -> Option<Counted>
     Some(Counted { number, count })
 }
 
+/// Whether the byte may stand behind a value: a comma, or the end of what is open.
 #[inline(always)]
 fn ends_value(byte: u8) -> bool
     ensures { result ≡ ((byte == 44) || (byte == 125) || (byte == 93)) }

@@ -1,10 +1,10 @@
 //! Numbers, and whether they are in range.
 
-ghost use Rattle.std.specs.Prelude.{◌≡◌, ◌*◌, ◌^◌, ◌<◌, ◌≤◌, ◌==◌, false, true, length, slice_index, Some, IsTrue, IfSome};
+ghost use Rattle.std.specs.Prelude.{◌≡◌, ◌*◌, ◌^◌, ◌<◌, ◌≤◌, ◌==◌, false, true, length, slice_index, IsTrue, IfSome};
 ghost use Rattle.std.specs.Bool.{OnTrue};
 ghost use Rattle.std.specs.Option.{is_some, option_and_then};
 ghost use Rattle.std.specs.Str.Parse.{AllDigits, digits_value};
-ghost use Rattle.fast_float.specs.Text.{scan, digits_of, tens_up, tens_down};
+ghost use Rattle.fast_float.specs.Text.{digits_of, tens_up, tens_down};
 ghost use Rattle.serde_json.specs.Find.{as_u64};
 ghost use Rattle.serde_json.specs.Read.{number_of, number_from, float_of};
 
@@ -96,6 +96,7 @@ fn negative_is_in_range(numeral: &Numeral<'_>) -> bool
     is_finite(true, numeral)
 }
 
+#[tactic(auto, using(crate::proofs::Contents::small_finite))]
 fn is_finite(negative: bool, numeral: &Numeral<'_>) -> bool
     ensures { result ≡ is_some (float_of negative numeral.now) }
 {

@@ -1,6 +1,6 @@
 //! Arrays and objects, opened.
 
-ghost use Rattle.std.specs.Prelude.{◌≡◌, ◌<◌, ◌≤◌, ◌-◌, length, None, Err, IfOk, OnOk};
+ghost use Rattle.std.specs.Prelude.{◌≡◌, ◌<◌, ◌-◌, length, None, Err, IfOk, OnOk};
 ghost use Rattle.std.specs.Bool.{MatchBool};
 ghost use Rattle.json.specs.Json.{parse_map};
 ghost use Rattle.serde_json.specs.Data.{array, object};
@@ -14,6 +14,7 @@ use json::Token;
 
 /// Takes the bracket of an array, where that is the next value; takes any other value whole.
 #[inline(always)]
+#[tactic(auto, using(crate::proofs::Nexts::next_begin_array))]
 pub fn open_array(reader: &mut Reader<'_>, depth: usize) -> Result<bool, NotRead>
     ensures ok { IfOk result (λ opened. MatchBool opened
         ((0 < depth)
@@ -51,6 +52,7 @@ fn other_array(reader: &mut Reader<'_>, depth: usize) -> Result<bool, NotRead>
 
 /// Takes the brace of an object, where that is the next value; takes any other value whole.
 #[inline(always)]
+#[tactic(auto, using(crate::proofs::Nexts::next_begin_object))]
 pub fn open_object(reader: &mut Reader<'_>, depth: usize) -> Result<bool, NotRead>
     ensures ok { IfOk result (λ opened. MatchBool opened
         ((0 < depth)

@@ -24,6 +24,7 @@ pub fn pass_over(reader: &mut Reader<'_>, depth: usize) -> Result<(), NotRead>
 
 /// Takes the next token.
 #[inline(always)]
+#[tactic(auto, using(crate::proofs::Nexts::next_nil))]
 pub(crate) fn take_token<'a>(reader: &mut Reader<'a>) -> Result<Token<'a>, NotRead>
     ensures ok { IfOk result (λ token. reader.old ≡ token_of token ∷ reader.new) }
     ensures err { result ≡ Err NotRead.NotJson

@@ -3,7 +3,7 @@
 //! What the product writes is read byte by byte, with no index of the text. At the first token of another kind, or with an
 //! escape in it, the rest of the text is given to the reader of `json`.
 
-ghost use Rattle.std.specs.Prelude.{◌≡◌, ◌∷◌, None, Some, Err, IsTrue, IfOk, MatchOption, option_map};
+ghost use Rattle.std.specs.Prelude.{◌≡◌, ◌∷◌, None, Some, Err, IsTrue, IfOk, OnErr, MatchOption, option_map};
 ghost use Rattle.std.specs.Bool.{MatchBool};
 ghost use Rattle.json.specs.Token as tokens;
 ghost use Rattle.json.specs.Lex.{after_value, between, lex, punctuate};
@@ -14,7 +14,7 @@ ghost use Rattle.tq_json.specs.Plain.{IsAtLexeme, IsNumberFirst, NotBeforeComma,
 
 use crate::fault::NotRead;
 use crate::lexeme::{after_spaces, begins_with_key, behind, number_first, string_first};
-use crate::run::byte_at;
+use crate::run::first_byte;
 use json::{Scratch, Token};
 use std::alloc::AllocError;
 use std::marker::Model;
@@ -29,6 +29,7 @@ enum Place {
 }
 
 impl Place {
+    /// Whether what is open may close here.
     #[inline(always)]
     fn may_close(self) -> bool
         ensures { result ≡ closes_at self }
@@ -36,6 +37,7 @@ impl Place {
         matches!(self, Place::Fresh | Place::AfterValue)
     }
 
+    /// Whether a value, or a key, may begin here.
     #[inline(always)]
     fn may_begin(self) -> bool
         ensures { result ≡ begins_at self }
@@ -79,6 +81,7 @@ struct Passed<'a> {
 
 /// Passes the comma that may follow a value.
 #[inline(always)]
+#[tactic(auto, using(crate::proofs::Marks::comma_passed))]
 fn after_value(rest: &str) -> Passed<'_>
     requires { IsAtLexeme rest.now }
     ensures same { tokens_at result.place result.text.now
@@ -87,7 +90,7 @@ fn after_value(rest: &str) -> Passed<'_>
     ensures passed { NotBeforeComma result.place result.text.now }
     ensures going { IsTrue (goes_at result.place) }
 {
-    if byte_at(rest.as_bytes(), 0) == b',' {
+    if first_byte(rest) == b',' {
         return Passed {
             place: Place::AfterComma,
             text: behind(rest),
@@ -110,12 +113,13 @@ enum Outlook {
     Refused,
 }
 
+/// What comes of the text at the place, before it is read.
 fn foresee(text: &str, place: Place) -> Outlook
     requires at { IsAtLexeme text.now }
     requires passed { NotBeforeComma place text.now }
     ensures { Foresees result place text.now }
 {
-    let first = byte_at(text.as_bytes(), 0);
+    let first = first_byte(text);
     let closes = (first == b'}') | (first == b']');
     match place {
         Place::Fresh => Outlook::Fresh,
@@ -164,7 +168,7 @@ impl<'a> Reader<'a> {
             return None;
         }
         let found = string_first(self.text)?;
-        if byte_at(found.rest.as_bytes(), 0) != b':' {
+        if first_byte(found.rest) != b':' {
             return None;
         }
         self.text = behind(found.rest);
@@ -201,7 +205,7 @@ impl<'a> Reader<'a> {
             return None;
         }
         let found = string_first(self.text)?;
-        if byte_at(found.rest.as_bytes(), 0) == b':' {
+        if first_byte(found.rest) == b':' {
             return None;
         }
         let passed = after_value(found.rest);
@@ -233,7 +237,7 @@ impl<'a> Reader<'a> {
         ensures { MatchBool result (self.old ≡ tokens.begin_object ∷ self.new)
             (self.new ≡ self.old) }
     {
-        if byte_at(self.text.as_bytes(), 0) != b'{' {
+        if first_byte(self.text) != b'{' {
             return false;
         }
         if !self.place.may_begin() {
@@ -250,7 +254,7 @@ impl<'a> Reader<'a> {
         ensures { MatchBool result (self.old ≡ tokens.begin_array ∷ self.new)
             (self.new ≡ self.old) }
     {
-        if byte_at(self.text.as_bytes(), 0) != b'[' {
+        if first_byte(self.text) != b'[' {
             return false;
         }
         if !self.place.may_begin() {
@@ -267,7 +271,7 @@ impl<'a> Reader<'a> {
         ensures { MatchBool result (self.old ≡ tokens.end_object ∷ self.new)
             (self.new ≡ self.old) }
     {
-        if byte_at(self.text.as_bytes(), 0) != b'}' {
+        if first_byte(self.text) != b'}' {
             return false;
         }
         if !self.place.may_close() {
@@ -288,7 +292,7 @@ impl<'a> Reader<'a> {
         if let Some(rest) = &mut self.rest {
             return rest.take_end_array();
         }
-        if byte_at(self.text.as_bytes(), 0) != b']' {
+        if first_byte(self.text) != b']' {
             return false;
         }
         if !self.place.may_close() {
@@ -333,10 +337,12 @@ impl<'a> Reader<'a> {
         }
     }
 
-    /// The next token. The rest of the text is given to the reader of `json`, which takes memory for it.
+    /// The next token. The rest of the text is given to the reader of `json`, which takes memory for it: where that is refused the
+    /// reader stays as it was.
     #[inline(never)]
     pub fn next(&mut self) -> Result<Option<Token<'a>>, AllocError>
-        ensures { IfOk result (λ token. Yields self.old token self.new) }
+        ensures ok { IfOk result (λ token. Yields self.old token self.new) }
+        ensures err { OnErr result (self.new ≡ self.old) }
     {
         if let Some(rest) = &mut self.rest {
             return Ok(rest.next());
@@ -345,6 +351,10 @@ impl<'a> Reader<'a> {
             Outlook::Fresh => {
                 let text = self.text;
                 let scratch = self.scratch.take().unwrap();
+                if let Err(refused) = scratch.reserve(text.len()) {
+                    self.scratch = Some(scratch);
+                    return Err(refused);
+                }
                 self.text = "";
                 self.place = Place::Failed;
                 let mut rest = json::Reader::new(text, scratch)?;

@@ -21,6 +21,14 @@ pub(crate) fn byte_at(text: &[u8], place: usize) -> u8
     }
 }
 
+/// The byte that the text begins with, or a space where there is none.
+#[inline(always)]
+pub(crate) fn first_byte(text: &str) -> u8
+    ensures { result ≡ head text.now }
+{
+    byte_at(text.as_bytes(), 0)
+}
+
 /// Which of the bytes are a quote, a backslash or a control character.
 #[inline(always)]
 fn stops(bytes: u8x16) -> u64

@@ -2,7 +2,7 @@ use Rattle.std.proofs.Common.{◌≡◌, ◌∷◌, None, ap, ◌∙◌, arith}
 use Rattle.json.specs.Reads.{token_of}
 use Rattle.serde_json.specs.Find.{as_array}
 use Rattle.tq_json.specs.Next.{next}
-use Rattle.tq_json.proofs.Nexts.{next-too_deep-array, next-begin_array, other_value, array_alone}
+use Rattle.tq_json.proofs.Nexts.{next-too_deep-array, next_begin_array, other_value, array_alone}
 use Rattle.tq_json.proofs.opening.other_array.Goals as goal
 
 pub returns-in_default-clause-ok : goal.returns-in_default-clause-ok
@@ -18,4 +18,4 @@ returns-then-depth-eq0-clause-err c refused =
 pub returns-clause-ok : goal.returns-clause-ok
 returns-clause-ok c =
     let is = c.in_ok-token.ensures.ok ∙ ap (λ k. token_of k ∷ c.take_token.new.reader) c.in-BeginArray.is in
-    (omega arith, ap (next c.args.depth) is ∙ next-begin_array c.args.depth c.take_token.new.reader (omega arith))
+    (omega arith, ap (next c.args.depth) is ∙ next_begin_array c.args.depth c.take_token.new.reader (omega arith))

@@ -1,7 +1,7 @@
 use Rattle.std.proofs.Common.{◌∷◌, ap, ◌∙◌, arith}
 use Rattle.json.specs.Reads.{token_of}
 use Rattle.tq_json.specs.Next.{next, HasNoNames}
-use Rattle.tq_json.proofs.Nexts.{next-too_deep-object, next-begin_object, other_value, object_alone}
+use Rattle.tq_json.proofs.Nexts.{next-too_deep-object, next_begin_object, other_value, object_alone}
 use Rattle.tq_json.proofs.opening.other_object.Goals as goal
 
 pub returns-in_default-clause-ok : goal.returns-in_default-clause-ok
@@ -17,4 +17,4 @@ returns-then-depth-eq0-clause-err c refused =
 pub returns-clause-ok : goal.returns-clause-ok
 returns-clause-ok c =
     let is = c.in_ok-token.ensures.ok ∙ ap (λ k. token_of k ∷ c.take_token.new.reader) c.in-BeginObject.is in
-    (omega arith, ap (next c.args.depth) is ∙ next-begin_object c.args.depth c.take_token.new.reader (omega arith))
+    (omega arith, ap (next c.args.depth) is ∙ next_begin_object c.args.depth c.take_token.new.reader (omega arith))
