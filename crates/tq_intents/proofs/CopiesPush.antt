@@ -1,12 +1,13 @@
 -- A copy that is written adds and ends no vote. The copies that a list of records stands for, after more records. The
 -- copies that a list keeps, each as the first of the file's records with the greatest version.
-use Rattle.std.proofs.Common.{◌≡◌, ℕ, Bool, false, cond, ◌||◌, List, [], ◌∷◌, ◌++◌, map, Option, Some, None, refl, ap, sym, subst, ◌∙◌, append_assoc, ◌+◌, take, length, get_or, true, ◌&&◌, ◌<◌, ◌≤◌, filter, arith, nat_lt, nat_le, ◌==◌, max}
+use Rattle.std.proofs.Common.{◌≡◌, ℕ, Bool, false, cond, ◌||◌, List, [], ◌∷◌, ◌++◌, map, Option, Some, None, refl, ap, sym, subst, ◌∙◌, append_assoc, ◌+◌, ◌-◌, take, length, get_or, true, ◌&&◌, ◌<◌, ◌≤◌, filter, arith, nat_lt, nat_le, ◌==◌, max}
 use Rattle.std.proofs.lemmas.List.{append-nil, take_more}
+use Rattle.std.proofs.lemmas.List.Elements.{filter-append}
 use Rattle.std.specs.FinMap as fin
 use Rattle.std.specs.List.{list_any, filter_map, cons_option, AllByRecursion, find}
 use Rattle.std.specs.Ordering.{nat_cmp, eq_by_cmp}
 use Rattle.tq_store.specs.declared.write.Write.{Write}
-use Rattle.tq_intents.specs.Kept.{IsIndex, ends_vote, write_of, lock_of, opened_vote, open_votes, kept_votes, kept_copies, with_copy, with_record, vote_records, KeepsNewest, copy_to, greatest_version, newest}
+use Rattle.tq_intents.specs.Kept.{IsIndex, ends_vote, write_of, lock_of, opened_vote, open_votes, kept_votes, kept_copies, with_copy, with_record, vote_records, KeepsNewest, copy_to, greatest_version, newest, newer_first}
 use Rattle.tq_intents.specs.declared.record.OpenVote.{OpenVote}
 use Rattle.tq_intents.specs.declared.record.Record.{Record}
 use Rattle.tq_intents.specs.declared.record.Record.TheVariants.{Copy, Intent, Keep, Prepared, Gone}
@@ -167,6 +168,24 @@ newer_from start now (write ∷ rest) r =
 
 pub installed_all-newer : (files : Files) (writes : List Write) → installed_all files (filter (is_newer files) writes) ≡ installed_all files writes
 installed_all-newer files writes = newer_from files files writes (λ q. omega arith)
+
+-- the last of the first writes, which is above the copies or not
+pub newer_first-last : (files : Files) (writes : List Write) (count : ℕ) (write : Write) (b : Bool) → 0 < count → count ≤ length writes → write ≡ get_or writes (count - 1) write → is_newer files write ≡ b
+    → newer_first count files writes ≡ newer_first (count - 1) files writes ++ cond b (write ∷ []) []
+newer_first-last files writes count write b some within at is =
+    let place = count - 1 in
+    let first = take place writes in
+    let less : place < length writes = omega arith in
+    let more : count ≡ place + 1 = omega arith in
+    ap (λ n. newer_first n files writes) more
+    ∙ ap (filter (is_newer files)) (take_more writes place write less ∙ ap (λ w. first ++ w ∷ []) (sym at))
+    ∙ filter-append (is_newer files) first (write ∷ [])
+    ∙ ap (λ b. newer_first place files writes ++ cond b (write ∷ []) []) is
+
+-- writes that come, and one more
+pub installed_all-push : (files : Files) (writes : List Write) (write : Write) → installed_all files (writes ++ write ∷ []) ≡ copies_after_install (installed_all files writes) write.file (copy_in write)
+installed_all-push files [] write = refl
+installed_all-push files (first ∷ rest) write = installed_all-push (copies_after_install files first.file (copy_in first)) rest write
 
 -- ---- newest copies
 

@@ -1,11 +1,11 @@
 -- What a list of stable records stands for: copies, open votes and their locks. The open votes by transaction, and
 -- what contracts see of a server's log. What changes in a server's log, and in the index of its open votes.
-use Rattle.std.specs.Prelude.{◌≡◌, ℕ, Bool, true, false, ◌&&◌, ◌==◌, ◌<◌, nat_lt, nat_le, max, ⊤, List, [], ◌∷◌, ◌++◌, map, Option, Some, None, if◌then◌else◌, refl}
+use Rattle.std.specs.Prelude.{◌≡◌, ℕ, Bool, true, false, ◌&&◌, ◌==◌, ◌<◌, nat_lt, nat_le, max, ⊤, List, [], ◌∷◌, ◌++◌, map, filter, take, Option, Some, None, if◌then◌else◌, refl}
 use Rattle.std.specs.FinMap as fin
 use Rattle.std.specs.List.{AllByRecursion, find, list_any, filter_map, flat_map}
 use Rattle.std.specs.Option.{option_and_then, option_map, option_map_or}
 use Rattle.std.specs.Ordering.{nat_cmp}
-use Rattle.tq_store.specs.Copies.{Files, copy_at, copy_in, copy_of, copies_after_install, installed_all}
+use Rattle.tq_store.specs.Copies.{Files, copy_at, copy_in, copy_of, copies_after_install, installed_all, is_newer}
 use Rattle.tq_store.specs.declared.write.Write.{Write}
 use Rattle.tq_locks.specs.Locks.{Locks, LockKey}
 use Rattle.tq_locks.specs.declared.mode.Lock.{Lock}
@@ -149,6 +149,10 @@ HoldsVotesLocks list = (file : List ℕ) (txn : ℕ) → fin.get (kept_locks lis
 abbrev pub with_record : Files → Record → Files
 with_record files (Copy write) = copies_after_install files write.file (copy_in write)
 with_record files other = files
+
+-- those of the first writes, so many, that are above the copies
+abbrev pub newer_first : ℕ → Files → List Write → List Write
+newer_first count files writes = filter (is_newer files) (take count writes)
 
 -- ---- index
 

@@ -5,7 +5,7 @@ ghost use Rattle.std.specs.FinMap as fin;
 ghost use Rattle.std.specs.Option.{option_copied};
 ghost use Rattle.std.specs.List.{list_any, filter_map};
 ghost use Rattle.tq_store.specs.Copies.{installed_all};
-ghost use Rattle.tq_intents.specs.Kept.{with_end, AddsOpenVote, AddsVote, Indexes, KeepsCopies, KeepsCopy, OpensVote, WritesVote, HasEachVote, kept_copies, kept_votes, vote_records, HasOneVoteEach, HoldsVotesLocks, IsAbove, IsUnfinished, KeepsNewest};
+ghost use Rattle.tq_intents.specs.Kept.{with_end, AddsOpenVote, AddsVote, Indexes, KeepsCopies, KeepsCopy, OpensVote, WritesVote, HasEachVote, kept_copies, kept_votes, vote_records, HasOneVoteEach, HoldsVotesLocks, IsAbove, IsUnfinished, KeepsNewest, newer_first};
 ghost use Rattle.tq_intents.specs.Kept as spec;
 ghost use Rattle.tq_intents.specs.Sharing.{lock_of_vote};
 
@@ -153,6 +153,43 @@ impl Intents {
             copies.install(write.file(), write.version(), content);
             self.push_copy(write);
         }
+    }
+
+    /// Installs those of the first writes, so many, that are above the copies, and writes that they were, in the room that was made
+    /// for both. It calls itself once for each write, and has cloned what it keeps of all of them before the first change.
+    pub fn install_newer(
+        &mut self,
+        copies: &mut Copies,
+        writes: &SharedSeq<Write>,
+        count: usize,
+    ) -> Result<(), AllocError>
+        requires count { count ≤ length writes.now }
+        requires log { count ≤ self.old.room }
+        requires copies { count ≤ copies.old.room }
+        ensures records { OnOk result (self.new.records
+            ≡ self.old.records ++ map Record.Copy (newer_first count copies.old.files writes.now)) }
+        ensures votes { OnOk result (kept_votes self.new.records ≡ kept_votes self.old.records) }
+        ensures files { OnOk result (copies.new.files
+            ≡ installed_all copies.old.files (newer_first count copies.old.files writes.now)) }
+        ensures log_room { OnOk result (self.old.room ≤ self.new.room + count) }
+        ensures copies_room { OnOk result (copies.old.room ≤ copies.new.room + count) }
+        ensures err { OnErr result (self.new ≡ self.old) }
+        ensures err_copies { OnErr result (copies.new ≡ copies.old) }
+    {
+        if count == 0 {
+            return Ok(());
+        }
+        let place = count - 1;
+        let write = &writes.as_slice()[place];
+        if copies.get(&write.file).version >= write.version {
+            return self.install_newer(copies, writes, place);
+        }
+        let content = write.content.clone()?;
+        let written = SharedWrite::at(writes.clone()?, place);
+        self.install_newer(copies, writes, place)?;
+        copies.install(write.file, write.version, content);
+        self.push_copy(written);
+        Ok(())
     }
 
     /// Gives a vote: writes its records and opens it. Where memory is refused, the records are cut back to those before.

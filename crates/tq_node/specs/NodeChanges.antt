@@ -17,7 +17,7 @@ use Rattle.tq_asks.specs.declared.ask.WorkAsk.TheVariants as work
 use Rattle.tq_node.specs.declared.change.NodeChange.{NodeChange}
 use Rattle.tq_node.specs.declared.change.NodeStep.{NodeStep}
 use Rattle.tq_node.specs.declared.change.NodeStep.TheVariants.{Nothing, Lock, Vote, Discard, Install, Release, Refresh, Unfinished, Copies, Crash, Return}
-use Rattle.tq_node.specs.Records.{Records, NodeState, records_after_crash, kept_lock, kept_records, open_vote, installs, refusal, work_refusal, work_reply}
+use Rattle.tq_node.specs.Records.{Records, NodeState, records_after_crash, kept_lock, kept_records, open_vote, installs, newer_writes, refusal, work_refusal, work_reply}
 use Rattle.tq_shape.specs.Journal.{state_at}
 use Rattle.tq_node.specs.Node.{NodeView, with_last}
 use Rattle.tq_shape.specs.declared.answers.Plan.{Plan}
@@ -119,8 +119,8 @@ abbrev pub Locks : NodeView → NodeView → ℕ → ℕ → List ℕ → Mode �
 Locks old new number txn file mode version = Takes old new number (Lock txn file mode version)
 
 -- the step is that of the end of a vote whose writes come
-abbrev pub Installs : NodeView → NodeView → ℕ → ℕ → ℕ → List Write → List Write → Type 0
-Installs old new number txn vote writes newer = Takes old new number (Install txn vote writes newer)
+abbrev pub Installs : NodeView → NodeView → ℕ → ℕ → ℕ → List Write → Type 0
+Installs old new number txn vote writes = Takes old new number (Install txn vote writes (newer_writes old.state.records writes))
 
 -- the server is what a step leaves, whether its number is noted or not
 abbrev pub TakesOrNotes : NodeView → NodeView → ℕ → NodeStep → Type 0

@@ -506,18 +506,17 @@ impl Node {
         number: u64,
         txn: u64,
         vote: u64,
-        writes: &[Write],
-        newer: Seq<NewerWrite>,
+        writes: &SharedSeq<Write>,
     ) -> Result<(), Memory>
         requires open { IsSome (fin.get self.old.state.records.votes txn) }
         requires vote { vote ≡ (spec.open_vote self.old.state.records txn).number }
-        requires newer { newer ≡ spec.newer_writes self.old.state.records writes.now }
-        ensures after { OnOk result (Installs self.old self.new number txn vote writes.now newer) }
+        ensures after { OnOk result (Installs self.old self.new number txn vote writes.now) }
         ensures err { OnErr result (self.new ≡ self.old) }
     {
-        self.copies.reserve(alloc, newer.len())?;
-        self.intents.reserve(newer.len() + 1)?;
-        self.intents.install_copies(&mut self.copies, newer);
+        let count = writes.as_slice().len();
+        self.copies.reserve(alloc, count)?;
+        self.intents.reserve(count + 1)?;
+        self.intents.install_newer(&mut self.copies, writes, count)?;
         self.intents.finish(txn);
         self.locks.release(txn);
         Ok(())
@@ -572,8 +571,8 @@ impl Node {
                 txn,
                 number: vote,
                 writes,
-                newer,
-            } => self.install(alloc, number, txn, vote, writes.as_slice(), newer),
+                newer: _,
+            } => self.install(alloc, number, txn, vote, &writes),
             NodeStep::Release { txn } => {
                 self.release(number, txn);
                 Ok(())

@@ -240,8 +240,7 @@ impl Node {
             });
         }
         let writes = vote.writes.clone()?;
-        let newer = self.newer(alloc, &writes)?;
-        self.install(alloc, number, txn, given, writes.as_slice(), newer)?;
+        self.install(alloc, number, txn, given, &writes)?;
         self.note(number);
         Ok(Telling {
             entered: NodeReply::Installed,

@@ -1,12 +1,9 @@
-use Rattle.std.proofs.Common.{List, [], map, ap, sym, subst, ◌∙◌, rules}
-use Rattle.std.specs.List.{list_any}
+use Rattle.std.proofs.Common.{[], ap, sym, subst, ◌∙◌, rules}
 use Rattle.tq_asks.specs.declared.ask.NodeAsk.TheVariants.{Work}
 use Rattle.tq_asks.specs.declared.ask.WorkAsk.TheVariants.{Decide}
 use Rattle.tq_node.specs.Node.{NodeView, with_last}
 use Rattle.tq_node.specs.declared.change.NodeStep.TheVariants.{Install}
-use Rattle.tq_store.specs.Copies.{copy_of, installed_all}
-use Rattle.tq_store.specs.Names.{same_name}
-use Rattle.tq_store.specs.declared.write.Write.{Write}
+use Rattle.tq_store.specs.Copies.{copy_of}
 use Rattle.tq_node.proofs.Installed.{step-keeps, step-reaches}
 use Rattle.tq_node.specs.Telling.{AreReached}
 use Rattle.tq_node.specs.declared.telling.Raised.TheVariants.{Written}
@@ -23,10 +20,8 @@ returns-clause-told c =
       after = search rules;
       raised = λ file none.
           ap (λ (v : NodeView). copy_of v.state.records.copies file) after
-          ∙ step-keeps ask old c.args.number (Install c.args.txn 0 c.as_slice.result.now []) file
-          (ap (λ (writes : List Write). list_any (same_name file) (map (λ write. write.file) writes)) c.as_slice.ensures ∙ none);
+          ∙ step-keeps ask old c.args.number (Install c.args.txn 0 c.in_ok-writes.writes []) file none;
       reached =
           subst (λ (v : NodeView). AreReached ask (Written c.in_ok-writes.writes) v.state.records.copies) (sym after)
-          (subst (λ (writes : List Write). AreReached ask (Written c.in_ok-writes.writes) (installed_all old.copies writes)) (sym c.as_slice.ensures)
-          (step-reaches ask old c.args.number (Install c.args.txn 0 c.in_ok-writes.writes [])));
+          (step-reaches ask old c.args.number (Install c.args.txn 0 c.in_ok-writes.writes []));
     }
