@@ -57,6 +57,8 @@ fn cited_in(alloc: Global, ask: &DeskAsk) -> Result<Vec<CitedVote>, Memory>
     let mut wanted = Vec::new(alloc);
     match ask {
         DeskAsk::Commit { ops, votes, .. } => {
+            // As many as where each voter granted one file, to read and then to write.
+            wanted.reserve(votes.len().saturating_mul(3))?;
             push_ops(&mut wanted, ops.as_slice())?;
             push_votes(&mut wanted, votes.as_slice())?;
         }

@@ -56,7 +56,7 @@ pub(crate) fn names_told(
 ) -> Result<Names, Memory>
     ensures { IfOk result (AreNames journals.now told.now) }
 {
-    let mut names = Vec::new(alloc);
+    let mut names = Vec::with_capacity(alloc, told.len())?;
     for exchange in told {
         let Some(name) = name_in(exchange) else {
             continue;
