@@ -5,6 +5,7 @@ use Rattle.tq_shape.specs.declared.part.Part.{Part}
 use Rattle.tq_shape.specs.Journal.{IsLegalFrom, entry}
 use Rattle.tq_cells.specs.declared.cell.Untaken.{Untaken}
 use Rattle.tq_cells.specs.declared.cell.Untaken.TheVariants as untaken
+use Rattle.tq_cells.specs.declared.settings.Replies.{Replies}
 
 -- a receipt: the part that was asked, the number of the entry, the ask and the reply
 pub record Told (A R : Type 0) : Type 0 where
@@ -33,6 +34,10 @@ last_behind number (suc more) = number + suc more
 -- why the ask was not taken: memory was refused, or the journal is full, and this ask is given back
 abbrev pub IsUntaken : {A : Type 0} → A → Untaken A → Type 0
 IsUntaken ask fault = (fault ≡ untaken.Memory) ⊎ (fault ≡ untaken.JournalFull ask)
+
+-- the reply is told three times
+abbrev pub IsThrice : {R : Type 0} → R → Replies R → Type 0
+IsThrice reply told = (told.entered ≡ reply) × (told.kept ≡ reply) × (told.told ≡ reply)
 
 -- the receipts of the passes, pass by pass
 abbrev pub receipts_of : {A R : Type 0} → List (Seen A R) → List (Told A R)

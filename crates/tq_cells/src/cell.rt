@@ -8,14 +8,14 @@ ghost use Rattle.tq_cells.specs.Passes.{IsToldBy, IsToldByOneOf, IsUntaken, last
 
 use crate::CallFault;
 use crate::gate::Gate;
-use crate::held::{answer, answer_to, since};
+use crate::held::{Held, answer_to, since};
 use crate::pass::Pass;
 use crate::receipt::Receipt;
 use crate::settings::Settings;
 use std::alloc::Global;
 use std::marker::Model;
 use std::sync::{Mutex, MutexGuard, Wait};
-use tq_shape::{Answers, Entry, Journaled, Memory, Part};
+use tq_shape::{Answers, Entry, Memory, Part};
 
 /// A part under a lock, beside its journal, which many threads may ask at once. Whenever the lock is free, the journal
 /// is legal and the part is its replay.
@@ -24,7 +24,7 @@ use tq_shape::{Answers, Entry, Journaled, Memory, Part};
 #[derive(Drop)]
 pub struct Cell<P: Answers> {
     part: Part,
-    held: Mutex<Journaled<P>>,
+    held: Mutex<Held<P>>,
 }
 
 impl<P: Answers> Model for Cell<P> {
@@ -43,7 +43,7 @@ impl<P: Answers> Cell<P> {
     {
         Cell {
             part,
-            held: Mutex::new(Journaled::new(alloc, opening, entries)),
+            held: Mutex::new(Held::new(alloc, opening, entries)),
         }
     }
 
@@ -75,7 +75,7 @@ impl<P: Answers> Cell<P> {
     {
         let mut held = self.held.lock(rt);
         gate.holding(self.part);
-        let receipt = answer_to(&mut held, alloc, self.part, pass, ask);
+        let receipt = answer_to(rt, &mut held, alloc, self.part, pass, ask);
         drop(held);
         gate.answered(self.part);
         receipt
@@ -105,7 +105,7 @@ impl<P: Answers> Cell<P> {
     {
         let mut held = self.lock(rt, settings);
         gate.holding(self.part);
-        let told = answer(&mut held, alloc, ask);
+        let told = held.answer(rt, alloc, settings, ask);
         drop(held);
         gate.answered(self.part);
         if let Ok(told) = &told {
@@ -115,7 +115,7 @@ impl<P: Answers> Cell<P> {
     }
 
     /// The lock, once it is had and the part is of these settings.
-    fn lock<R: Wait, S: Settings<P>>(&self, rt: &R, settings: &S) -> MutexGuard<'_, Journaled<P>>
+    fn lock<R: Wait, S: Settings<P>>(&self, rt: &R, settings: &S) -> MutexGuard<'_, Held<P>>
         ensures { S.are_of settings.now (mutex_guard_value result).part }
     {
         for _ in rt.forever() {
@@ -148,13 +148,13 @@ impl<P: Answers> Cell<P> {
     }
 
     /// The part beside its journal, once no thread asks it any more. It takes no memory.
-    pub fn into_journaled(self) -> Journaled<P>
+    pub fn into_held(self) -> Held<P>
         ensures { IsLegalFrom P.reply P.after (P.opening result.part) 1 result.journal }
     {
         let Cell { part: _, held } = self;
-        let journaled = held.into_inner();
-        let _ = journaled.entries();
-        journaled
+        let held = held.into_inner();
+        let _ = held.entries();
+        held
     }
 
     /// The journal, and the receipts of the passes, pass by pass. Answers an error only where memory is refused: then
@@ -169,7 +169,7 @@ impl<P: Answers> Cell<P> {
         ensures receipts { IfOk result (λ r. r.1.items ≡ receipts_of passes.items) }
     {
         let receipts = receipts_in_order(alloc, passes)?;
-        let journal = self.into_journaled().into_entries();
+        let journal = self.into_held().into_entries();
         Ok((journal, receipts))
     }
 }

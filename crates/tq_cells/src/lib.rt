@@ -12,7 +12,8 @@ mod settings;
 
 pub use cell::{Cell, Twice, Untaken};
 pub use gate::{Gate, OpenGate};
+pub use held::Held;
 pub use pass::Pass;
 pub use receipt::Receipt;
-pub use settings::Settings;
+pub use settings::{Replies, Settings, ask_by_plan};
 pub use tq_shape::{Answers, Fault as CallFault};

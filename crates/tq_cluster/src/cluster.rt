@@ -142,8 +142,8 @@ impl<G: Gate + Drop> Cluster<G> {
         } = self;
         let entries = limits.entries();
         let servers = server_journals(alloc, entries, servers, room);
-        let desk = desk_journal(alloc, levels, limits, desk.into_journaled());
-        let view = view_journal(alloc, levels, entries, view.into_journaled());
+        let desk = desk_journal(alloc, levels, limits, desk.into_held());
+        let view = view_journal(alloc, levels, entries, view.into_held());
         Journals::new(levels, limits, servers, desk, view)
     }
 

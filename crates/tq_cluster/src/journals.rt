@@ -9,11 +9,11 @@ ghost use Rattle.tq_tables.specs.Journals.{IsOfTree};
 ghost use Rattle.tq_tables.specs.Parts.{AreLegalServers, bounds_of};
 
 use std::alloc::Global;
-use tq_cells::Cell;
+use tq_cells::{Cell, Held};
 use tq_desk::Desk;
 use tq_live::View;
 use tq_node::Node;
-use tq_shape::{Journaled, Levels, Limits};
+use tq_shape::{Levels, Limits};
 use tq_tables::{DeskEntry, NodeEntry, ViewEntry};
 
 /// The journals of the servers in these cells, upwards from server 1, of at most that many entries each, put into the
@@ -34,7 +34,7 @@ pub(crate) fn server_journals(
     let mut journals = room;
     for cell in cells {
         let number = journals.len() as u64 + 1;
-        let journal = server_journal(alloc, number, entries, cell.into_journaled());
+        let journal = server_journal(alloc, number, entries, cell.into_held());
         journals.push_reserved(journal);
     }
     journals
@@ -42,19 +42,14 @@ pub(crate) fn server_journals(
 
 /// The journal of the server of that number, of at most that many entries, all of it. That another server lay in its cell, or a
 /// longer journal, cannot be; but no fact of what was under a lock says so. The journal would be empty then.
-fn server_journal(
-    alloc: Global,
-    number: u64,
-    entries: u32,
-    journaled: Journaled<Node>,
-) -> Vec<NodeEntry>
+fn server_journal(alloc: Global, number: u64, entries: u32, held: Held<Node>) -> Vec<NodeEntry>
     ensures legal { IsLegalNode number (reverse result.items) }
     ensures fits { vec_len result ≤ entries }
-    ensures whole { journaled.part.server ≡ number → length journaled.journal ≤ entries
-        → result.items ≡ journaled.journal }
+    ensures whole { held.part.server ≡ number → length held.journal ≤ entries
+        → result.items ≡ held.journal }
 {
-    let there = journaled.part().server().number();
-    let journal = journaled.into_entries();
+    let there = held.part().server().number();
+    let journal = held.into_entries();
     if there != number {
         return Vec::new(alloc);
     }
@@ -69,16 +64,16 @@ pub(crate) fn desk_journal(
     alloc: Global,
     levels: Levels,
     limits: Limits,
-    journaled: Journaled<Desk>,
+    held: Held<Desk>,
 ) -> Vec<DeskEntry>
     ensures legal { IsLegalDesk (bounds_of levels limits) (reverse result.items) }
     ensures fits { vec_len result ≤ limits.entries }
-    ensures whole { journaled.part.levels ≡ levels → journaled.part.limits ≡ limits
-        → length journaled.journal ≤ limits.entries → result.items ≡ journaled.journal }
+    ensures whole { held.part.levels ≡ levels → held.part.limits ≡ limits
+        → length held.journal ≤ limits.entries → result.items ≡ held.journal }
 {
-    let levels_there = journaled.part().levels();
-    let limits_there = journaled.part().limits();
-    let journal = journaled.into_entries();
+    let levels_there = held.part().levels();
+    let limits_there = held.part().limits();
+    let journal = held.into_entries();
     if levels_there != levels {
         return Vec::new(alloc);
     }
@@ -96,16 +91,16 @@ pub(crate) fn view_journal(
     alloc: Global,
     levels: Levels,
     entries: u32,
-    journaled: Journaled<View>,
+    held: Held<View>,
 ) -> Vec<ViewEntry>
     ensures legal { IsLegalView levels result.items }
     ensures of_tree { All (λ entry. IsOfTree levels entry.reply) result.items }
     ensures fits { vec_len result ≤ entries }
-    ensures whole { journaled.part.levels ≡ levels → length journaled.journal ≤ entries
-        → result.items ≡ journaled.journal }
+    ensures whole { held.part.levels ≡ levels → length held.journal ≤ entries
+        → result.items ≡ held.journal }
 {
-    let there = journaled.part().tree().levels();
-    let journal = journaled.into_entries();
+    let there = held.part().tree().levels();
+    let journal = held.into_entries();
     if there != levels {
         return Vec::new(alloc);
     }
