@@ -1,5 +1,6 @@
 -- A file that is read by its own plan gives its journals.
-use Rattle.std.proofs.Common.{◌≡◌, ℕ, Bool, true, false, not, ◌&&◌, List, codes, Option, Some, None, refl, sym, ap, subst, ◌∙◌}
+-- The form of journal files is that of either format, and no value is of both.
+use Rattle.std.proofs.Common.{◌≡◌, ℕ, Bool, true, false, not, ◌&&◌, List, codes, Option, Some, None, refl, sym, ap, subst, ◌∙◌, ◌==◌, ◌⊎◌, inl, inr, cond, arith}
 use Rattle.std.proofs.lemmas.Bool.{false≢true, and_parts, eqb-true}
 use lib.Dec.{eqb}
 use denote.Enum.Bare as Bare
@@ -11,10 +12,10 @@ use Rattle.tq_node.specs.NodeJournal.{NodeEntry}
 use Rattle.tq_desk.specs.DeskJournal.{DeskEntry}
 use Rattle.tq_tables.specs.Journals.{JournalsView, ViewEntry, AreJournals}
 use Rattle.tq_json.specs.declared.format.Format.{Format}
-use Rattle.tq_json.specs.Member.{format_of, ◌>>=◌, number_at}
+use Rattle.tq_json.specs.Member.{format_of, ◌>>=◌, number_at, format_number}
 use Rattle.tq_json_read.specs.declared.entry.Plan.{Plan}
 use Rattle.tq_json_read.specs.declared.file.FileFields.{FileFields}
-use Rattle.tq_json_read.specs.Frame.{levels_at, limits_at, servers_at, desk_at, view_at, journals_in, journals_by, journals_of, plan_of}
+use Rattle.tq_json_read.specs.Frame.{levels_at, limits_at, servers_at, desk_at, view_at, journals_in, journals_by, journals_of, plan_of, IsInFormat, AreBothRead}
 use Rattle.tq_json_read.specs.Slots.{names_of, file_fields, journals_from, IsPlanned}
 use Rattle.tq_json_read.proofs.Held.{read-are-journals}
 
@@ -109,3 +110,58 @@ same_plan a b other is e =
   where
     same_parts : (f g : Format) (l m i j : ℕ) → f ≡ g → l ≡ m → i ≡ j → planned f l i ≡ planned g m j
     same_parts f g l m i j p q r = λ k. record { format = p k; levels = q k; limit = r k }
+
+-- ---- formats
+
+by_tests : (a b : Bool) (number : ℕ) (format : Format) → (number == 1) ≡ a → (number == 2) ≡ b → cond a (Some One) (cond b (Some Two) None) ≡ Some format → number ≡ format_number format
+by_tests true b number One p q e = eqb-true number 1 p
+by_tests true b number Two p q e = absurd cc
+by_tests false true number One p q e = absurd cc
+by_tests false true number Two p q e = eqb-true number 2 q
+by_tests false false number format p q e = absurd cc
+
+number_is : (number : ℕ) (format : Format) → format_of number ≡ Some format → number ≡ format_number format
+number_is number format e = by_tests (number == 1) (number == 2) number format refl refl e
+
+of_format : (value : Data) (journals : JournalsView) (number : ℕ) (f : Option Format) → format_of number ≡ f → number_at (codes "format") value ≡ Some number
+    → (f >>= λ format. journals_in format value) ≡ Some journals → IsInFormat One value journals ⊎ IsInFormat Two value journals
+of_format value journals number None is e h = absurd cc
+of_format value journals number (Some One) is e h = inl (e ∙ ap Some (number_is number One is), h)
+of_format value journals number (Some Two) is e h = inr (e ∙ ap Some (number_is number Two is), h)
+
+of_number : (value : Data) (journals : JournalsView) (o : Option ℕ) → number_at (codes "format") value ≡ o
+    → (o >>= λ number. journals_by number value) ≡ Some journals → IsInFormat One value journals ⊎ IsInFormat Two value journals
+of_number value journals None e h = absurd cc
+of_number value journals (Some number) e h = of_format value journals number (format_of number) refl e h
+
+-- what is of one format is read
+pub is_read : (format : Format) (value : Data) (journals : JournalsView) → IsInFormat format value journals → journals_of value ≡ Some journals
+is_read One value journals h = ap (λ o. o >>= λ number. journals_by number value) h.0 ∙ h.1
+is_read Two value journals h = ap (λ o. o >>= λ number. journals_by number value) h.0 ∙ h.1
+
+same_number : (f g : Format) → format_number f ≡ format_number g → f ≡ g
+same_number One One e = refl
+same_number One Two e = absurd (omega (arith, e))
+same_number Two One e = absurd (omega (arith, e))
+same_number Two Two e = refl
+
+only_once : (value : Data) (f g : Format) (j k : JournalsView) → IsInFormat f value j → IsInFormat g value k → (f ≡ g) × (j ≡ k)
+only_once value f g j k a b =
+    let numbers : Some (format_number f) ≡ Some (format_number g) = sym a.0 ∙ b.0 in
+    let number : format_number f ≡ format_number g = cc in
+    let same : f ≡ g = same_number f g number in
+    let read : Some j ≡ Some k = sym a.1 ∙ ap (λ format. journals_in format value) same ∙ b.1 in
+    let equal : j ≡ k = cc in
+    (same, equal)
+
+pub both_read : AreBothRead
+both_read = record {
+  read = λ value journals. (
+    λ h. of_number value journals (number_at (codes "format") value) refl h,
+    λ h. elim h [
+      | inl one ↦ is_read One value journals one
+      | inr two ↦ is_read Two value journals two
+    ],
+  );
+  once = only_once;
+}

@@ -12,7 +12,7 @@ use Rattle.std.specs.Str.{bytes_eq}
 use Rattle.std.proofs.lemmas.Slice.Eq.{bytes_eq-Decides}
 use Rattle.tq_json.specs.Next.{HasNoNames}
 use Rattle.tq_json.specs.Member.{◌>>=◌, each}
-use Rattle.tq_json.proofs.Loops.{with_front, no_front}
+use Rattle.tq_json.proofs.Nexts.{with_front, no_front}
 use Rattle.tq_json_read.specs.Slots.{names_of, with, within_cap}
 
 -- ---- items

@@ -4,4 +4,3 @@ pub mod Desks
 pub mod Views
 pub mod Frame
 pub mod Slots
-pub mod Ordered

@@ -1,13 +1,14 @@
 -- Words of the reader's own: the members of an object by their names, and the slots that it keeps them in. Words of
 -- the reader's own: what it makes of the values that it found at the names of an object.
-use Rattle.std.specs.Prelude.{◌≡◌, ◌<◌, get_or, ℕ, zero, suc, Bool, true, false, not, ◌&&◌, ◌||◌, nat_le, cond, List, [], ◌∷◌, length, map, Option, Some, None, ◌≢◌, ⊤, Result, Ok, Err, ◌^◌, ◌==◌, codes, option_map}
+-- Members that are taken in the order of their names, one slot for each of them.
+use Rattle.std.specs.Prelude.{◌≡◌, ◌<◌, get_or, ℕ, zero, suc, Bool, true, false, not, ◌&&◌, ◌||◌, nat_le, cond, List, [], ◌∷◌, length, map, Option, Some, None, ◌≢◌, ⊤, Result, Ok, Err, ◌^◌, ◌==◌, codes, option_map, IsTrue}
 use Rattle.std.specs.Borrow.{Bor}
 use Rattle.std.specs.Option.{option_and_then}
 use Rattle.std.specs.Str.{bytes_eq}
-use Rattle.serde_json.specs.Data.{Data}
-use Rattle.serde_json.specs.Find.{get, as_str, as_array}
+use Rattle.serde_json.specs.Data.{Data, Members}
+use Rattle.serde_json.specs.Find.{get, as_str, as_array, get_member}
 use Rattle.tq_json.specs.Member.{◌>>=◌, each, number_of}
-use Rattle.serde_json.specs.Read.{read}
+use Rattle.serde_json.specs.Read.{read, of_members, converted}
 use Rattle.tq_node.specs.NodeJournal.{NodeEntry}
 use Rattle.tq_tables.specs.Journals.{JournalsView}
 use Rattle.tq_json.specs.declared.fault.NotRead.{NotRead}
@@ -20,6 +21,10 @@ use Rattle.tq_json_read.specs.declared.entry.Plan.{Plan}
 use Rattle.tq_json_read.specs.declared.file.FileFields.{FileFields}
 use Rattle.tq_json_read.specs.declared.file.ServerJournals.{ServerJournals}
 use Rattle.tq_json_read.specs.declared.view_reply.Servers.{Servers}
+use Rattle.std.specs.List.{list_all}
+use Rattle.json.specs.Token.{Token}
+use Rattle.json.specs.Json.{members, value}
+use Rattle.tq_json.specs.Plain.{is_plain_name}
 
 -- what an object has at each name
 abbrev pub Names : Type 0
@@ -164,3 +169,35 @@ AnswersText (Err ReadFault.NotJournals) text = (value : Data) × (read text ≡ 
 -- the numbers of servers that stand in a place, no list longer than each set of servers of a tree of those levels
 abbrev pub servers_in : ℕ → Option Data → Option Servers
 servers_in levels place = views.kept (within_cap (Some (2 ^ levels)) (all_of number_of place))
+
+-- ---- ordered
+
+-- each byte of the names means itself in a string
+abbrev pub are_plain : List (List ℕ) → Bool
+are_plain keys = list_all is_plain_name keys
+
+-- the members behind those that were found
+abbrev pub members_behind : Members → ℕ → List Token → Option (Members × List Token)
+members_behind found depth ts = converted (λ ms. of_members ms found) (members (value depth) (length ts) ts)
+
+-- nothing was found at any of the names
+abbrev pub HasNone : List (List ℕ) → Members → Type 0
+HasNone keys found = (name : List ℕ) → IsTrue (is_among name keys) → get_member name found ≡ None
+
+-- at other names than these it is the same
+abbrev pub SameApart : List (List ℕ) → Members → Members → Type 0
+SameApart keys old new = (name : List ℕ) → is_among name keys ≡ false → get_member name new ≡ get_member name old
+
+-- at other names than this it is the same
+abbrev pub SameBut : List ℕ → Members → Members → Type 0
+SameBut key old new = (name : List ℕ) → bytes_eq name key ≡ false → get_member name new ≡ get_member name old
+
+-- what stood before is some members and what is left, and the first is what stands at the name
+abbrev pub IsNameTaken : {A : Type 0} → (Option Data → A) → List ℕ → Members → Option (Members × List Token) → ℕ → A → List Token → Type 0
+IsNameTaken at name old before depth first ts =
+    (new : Members) × (before ≡ members_behind new depth ts) × (first ≡ at (get_member name new)) × SameBut name old new
+
+-- what stood before is some members and what is left, and the slots have what stands at the names
+abbrev pub IsTakenInOrder : {S : Type 0} → (Slots → S) → List (List ℕ) → Members → Option (Members × List Token) → ℕ → S → List Token → Type 0
+IsTakenInOrder of keys old before depth slots ts =
+    (new : Members) × (before ≡ members_behind new depth ts) × (slots ≡ of (slots_at keys (λ name. get_member name new))) × SameApart keys old new

@@ -5,8 +5,7 @@ ghost use Rattle.std.specs.Prelude.{◌≡◌, ◌&&◌, ◌<◌, ◌≤◌, fal
 ghost use Rattle.serde_json.specs.Find.{get_member};
 ghost use Rattle.tq_json.specs.Next.{next, next_members, Found};
 ghost use Rattle.tq_json.specs.Plain.{is_plain_name};
-ghost use Rattle.tq_json_read.specs.Slots.{Names, names_of, with, slots_for, texts, IsNameAt, is_among, are_distinct};
-ghost use Rattle.tq_json_read.specs.Ordered.{IsNameTaken, are_plain, members_behind};
+ghost use Rattle.tq_json_read.specs.Slots.{Names, names_of, with, slots_for, texts, IsNameAt, is_among, are_distinct, IsNameTaken, are_plain, members_behind};
 ghost use Rattle.serde_json.specs.Data.{Members};
 ghost use Rattle.std.specs.Str.{bytes_eq};
 
@@ -19,8 +18,7 @@ use tq_json::{NotRead, Reader, is_text, open_object, pass_over};
 pub(crate) trait Slots<'a>: Sized + Drop {
     ghost use Rattle.std.specs.Prelude.{◌≡◌, ◌<◌, ◌≤◌, false, drop, length, None, Err, IfOk, OnOk, IsTrue, MatchOption};
     ghost use Rattle.tq_json_read.specs.declared.entry.Plan.{Plan};
-    ghost use Rattle.tq_json_read.specs.Slots.{Slots as Values, with_slot, texts, is_among, are_distinct, IsNameAt};
-    ghost use Rattle.tq_json_read.specs.Ordered.{HasNone, IsTakenInOrder, are_plain, members_behind};
+    ghost use Rattle.tq_json_read.specs.Slots.{Slots as Values, with_slot, texts, is_among, are_distinct, IsNameAt, HasNone, IsTakenInOrder, are_plain, members_behind};
     ghost use Rattle.serde_json.specs.Data.{Members};
     ghost use Rattle.tq_json.specs.Next.{next, Found};
 

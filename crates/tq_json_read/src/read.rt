@@ -31,6 +31,7 @@ enum Reading {
 /// of the form. No value is of both formats.
 ///
 /// No value of the whole text is made: entries are read one at a time, and what no name of the form asks for is passed over.
+#[tactic(auto, using(crate::proofs::Planned::both_read))]
 pub fn journals_from_json(alloc: Global, text: &[u8]) -> Result<Journals, ReadFault>
     ensures answers { Answers result text.now spec.journals_of }
     ensures formats { AreBothRead }

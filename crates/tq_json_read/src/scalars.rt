@@ -2,7 +2,7 @@
 ghost use Rattle.std.specs.Prelude.{◌≡◌, Some, refl};
 ghost use Rattle.std.specs.Option.{option_and_then};
 ghost use Rattle.std.specs.Str.{bytes_eq};
-ghost use Rattle.serde_json.specs.Find.{as_str, as_bool, as_array};
+ghost use Rattle.serde_json.specs.Find.{as_str, as_bool};
 ghost use Rattle.tq_json.specs.Member as content;
 ghost use Rattle.tq_json.specs.Member.{number_of};
 ghost use Rattle.tq_live.specs.Costs as purposes;

@@ -1,6 +1,6 @@
 //! Replies of the view.
 
-ghost use Rattle.std.specs.Prelude.{◌≡◌, Some, refl, IfOk};
+ghost use Rattle.std.specs.Prelude.{◌≡◌, refl, IfOk};
 ghost use Rattle.tq_json_read.specs.Slots.{made_by};
 ghost use Rattle.tq_json_read.specs.Slots as slots;
 ghost use Rattle.tq_json_read.specs.Views as spec;
@@ -142,6 +142,7 @@ fn blocked_reply(
     Ok(Some(ViewReply::Refused(ViewRefusal::Blocked(blocker))))
 }
 
+#[tactic(auto, using(crate::proofs::Places::member_from))]
 fn member_of<Role>(
     alloc: Global,
     levels: Levels,

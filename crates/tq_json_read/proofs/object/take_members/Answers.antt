@@ -5,9 +5,8 @@ use Rattle.serde_json.specs.Data.{no_members}
 use Rattle.serde_json.specs.Find.{get_member}
 use Rattle.tq_json.specs.Next.{next_members}
 use Rattle.tq_json.proofs.Nexts.{members_end}
-use Rattle.tq_json_read.specs.Slots.{slots_for}
-use Rattle.tq_json_read.specs.Ordered.{members_behind}
-use Rattle.tq_json_read.proofs.Ordered.{from_there}
+use Rattle.tq_json_read.specs.Slots.{slots_for, members_behind}
+use Rattle.tq_json_read.proofs.Places.{from_there}
 use Rattle.tq_json_read.proofs.object.take_members.Goals as goal
 
 pub returns-in_err-slots-clause-err : goal.returns-in_err-slots-clause-err

@@ -2,8 +2,8 @@ use Rattle.std.proofs.Common.{◌≡◌, ◌∷◌, None, rules, refl, sym, ap, 
 use Rattle.json.specs.Token.{key}
 use Rattle.json.specs.Json.{read_key}
 use Rattle.tq_json.proofs.Nexts.{members_stop}
-use Rattle.tq_json_read.specs.Ordered.{members_behind}
-use Rattle.tq_json_read.proofs.Ordered.{named}
+use Rattle.tq_json_read.specs.Slots.{members_behind}
+use Rattle.tq_json_read.proofs.Places.{named}
 use Rattle.tq_json_read.proofs.object.take_named.Goals as goal
 
 pub returns-then-take_key_named-clause-ok : goal.returns-then-take_key_named-clause-ok

@@ -1,9 +1,8 @@
 use Rattle.std.proofs.Common.{◌≡◌, ◌+◌, ℕ, List, [], ◌∷◌, get_or, drop, suc, None, rules, refl, sym, ap, ◌∙◌, arith}
 use Rattle.std.specs.Borrow.{Bor}
 use Rattle.std.proofs.lemmas.Bool.{and_parts}
-use Rattle.tq_json_read.specs.Slots.{Slots, texts}
-use Rattle.tq_json_read.specs.Ordered.{are_plain, members_behind}
-use Rattle.tq_json_read.proofs.Ordered.{names_from, none_at, none_still, distinct_later, taken_first, nothing_taken, pair}
+use Rattle.tq_json_read.specs.Slots.{Slots, texts, are_plain, members_behind}
+use Rattle.tq_json_read.proofs.Places.{names_from, none_first, none_still, distinct_later, taken_first, nothing_taken, pair}
 use Rattle.tq_json_read.proofs.object.Tuple2OptionSlots.take_in_order.Goals as goal
 
 pub take_named-requires : goal.take_named-requires
@@ -44,7 +43,7 @@ returns-in_err-rest-clause-err g c old none refused =
     let k = (get_or names slot other).now in
     let keys = drop (slot + 1) (texts names) in
     let split : k ∷ keys ≡ drop slot (texts names) = names_from names slot other c.if-slot-names.false in
-    let n = c.in_ok-first.ensures.ok old (none_at k keys (drop slot (texts names)) old split none) in
+    let n = c.in_ok-first.ensures.ok old (none_first k keys (drop slot (texts names)) old split none) in
     n.1 ∙ c.in_err-rest.ensures.err n.0 (none_still k keys (drop slot (texts names)) old n.0 split c.requires.distinct n.3 none) (grind arith)
 
 pub returns-clause-ok : goal.returns-clause-ok
@@ -56,7 +55,7 @@ returns-clause-ok g c old none =
     let keys = drop (slot + 1) (texts names) in
     let split : k ∷ keys ≡ drop slot (texts names) = names_from names slot other c.if-slot-names.false in
     let all = drop slot (texts names) in
-    let n = c.in_ok-first.ensures.ok old (none_at k keys all old split none) in
+    let n = c.in_ok-first.ensures.ok old (none_first k keys all old split none) in
     let t = c.in_ok-rest.ensures.ok n.0 (none_still k keys all old n.0 split c.requires.distinct n.3 none) in
     taken_first (g.T.FromReader.at c.args.plan.now) (g.R.Slots.of c.args.plan.now) k keys old n.0 (members_behind old c.args.depth c.args.reader.now) (members_behind n.0 c.args.depth c.take_named.new.reader) c.args.depth
     c.in_ok-first.first c.in_ok-rest.rest c.take_in_order.new.reader all split c.requires.distinct n.1 n.2 n.3 t
