@@ -1,5 +1,0 @@
-use Rattle.std.proofs.Common.{rules}
-use Rattle.tq_live.proofs.tree.LiveTree.is_up.Goals as goal
-
-pub returns : goal.returns
-returns c = search rules
