@@ -100,21 +100,3 @@ pub(crate) fn read_copy(grants: &[Grant]) -> Result<FileCopy, Memory>
         }),
     }
 }
-
-/// The copy that is read, and its content once more.
-#[derive(Drop)]
-pub(crate) struct ReadTwice {
-    pub(crate) copy: FileCopy,
-    pub(crate) kept: Content,
-}
-
-/// What is read by the grants, with its content once more.
-#[inline(always)]
-pub(crate) fn read_twice(grants: &[Grant]) -> Result<ReadTwice, Memory>
-    ensures copy { IfOk result (λ read. read.copy ≡ spec.read_copy grants.now) }
-    ensures kept { IfOk result (λ read. read.kept ≡ (spec.read_copy grants.now).content) }
-{
-    let copy = read_copy(grants)?;
-    let kept = copy.content.clone()?;
-    Ok(ReadTwice { copy, kept })
-}

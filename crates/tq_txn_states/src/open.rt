@@ -13,7 +13,7 @@ ghost use Rattle.tq_txn_states.specs.Voting.{AddsOnly, KeepsOnly, VotesOnly, ans
 ghost use Rattle.tq_txn_states.specs.Ended as ending;
 
 use crate::ended::verdict_of;
-use crate::grants::{ReadTwice, grants_of, read_twice};
+use crate::grants::{grants_of, read_copy};
 use crate::servers::{Servers, put_at};
 use crate::{DeskTold, Ended, NodeTold, TxnFault, Voting};
 use std::alloc::Global;
@@ -22,7 +22,7 @@ use tq_asks::Verdict;
 use tq_coterie::is_quorum;
 use tq_desk::{Grant, Op, OpKind};
 use tq_evidence::{Shareable, granters, greatest_version};
-use tq_shape::{ExactClone, Levels, Limits, Memory, Seq, ServerId, SharedSeq};
+use tq_shape::{Levels, Limits, Memory, Seq, ServerId};
 use tq_store::{Content, FileCopy, FileName};
 
 /// A transaction that may read and write.
@@ -204,11 +204,8 @@ impl Open {
             ≡ txn_after_op self.old (read_op file.now grants.items)) }
         ensures err { OnErr result (self.new ≡ self.old) }
     {
-        let given = read_twice(grants.as_slice())?;
-        let ReadTwice {
-            copy,
-            kept: content,
-        } = given;
+        let copy = read_copy(grants.as_slice())?;
+        let content = copy.content.clone()?;
         let op = Op {
             file: *file,
             kind: OpKind::Read,
@@ -362,13 +359,6 @@ impl Open {
         touched
     }
 
-    #[inline(always)]
-    pub(crate) fn copy_ops(&self) -> Result<SharedSeq<Op>, Memory>
-        ensures { IfOk result (λ ops. ops ≡ self.now.ops) }
-    {
-        copy_of(&self.ops)
-    }
-
     fn is_used(&self, file: &FileName) -> bool
         ensures { result ≡ spec.is_used self.now.ops file.now }
     {
@@ -500,12 +490,4 @@ fn is_later(file: &FileName, op: &Op) -> bool
     ensures { result ≡ is_lt (name_cmp file.now op.now.file) }
 {
     file.cmp(&op.file).is_lt()
-}
-
-/// The list that a vector holds, once more.
-#[inline(always)]
-pub(crate) fn copy_of<T: ExactClone>(items: &Vec<T>) -> Result<SharedSeq<T>, Memory>
-    ensures { IfOk result (λ list. list ≡ items.now.items) }
-{
-    Ok(SharedSeq::from_vec(items.clone()?)?)
 }

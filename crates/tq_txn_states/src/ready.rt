@@ -14,7 +14,7 @@ use std::alloc::Global;
 use std::marker::Model;
 use tq_asks::{CitedVote, Verdict};
 use tq_desk::DeskAsk;
-use tq_shape::{Memory, SharedSeq};
+use tq_shape::{ExactClone, Memory, SharedSeq};
 
 /// A transaction with the votes of all its voters.
 pub struct Ready {
@@ -65,16 +65,16 @@ impl Ready {
 
     /// The commit to ask the desk for: its evidence is good, and cites only what the transaction was told.
     #[inline(always)]
-    pub fn evidence(&self, _alloc: Global) -> Result<DeskAsk, Memory>
+    pub fn evidence(&self, alloc: Global) -> Result<DeskAsk, Memory>
         ensures value { IfOk result (λ ask. ask ≡ spec.evidence_of self.now) }
         ensures cited { IfOk result (λ ask.
             (told : List NodeTold) → VotesOnly told self.now → CitesOnly told ask) }
         ensures good { evidence.IsGood self.now.txn.levels self.now.txn.ops self.now.votes }
     {
         let txn = self.voting.txn();
-        let (_ops, _votes) = (txn.ops(), self.voting.votes());
-        let ops = txn.copy_ops()?;
-        let votes = self.voting.copy_votes()?;
+        let (all_ops, all_votes) = (txn.ops(), self.voting.votes());
+        let ops = copy_of(alloc, all_ops)?;
+        let votes = copy_of(alloc, all_votes)?;
         Ok(DeskAsk::Commit {
             txn: txn.txn(),
             ops,
@@ -108,4 +108,12 @@ impl Ready {
     {
         self.into_voting().end_by(verdict, cite)
     }
+}
+
+/// The list of these values, once more.
+#[inline(always)]
+fn copy_of<T: ExactClone>(alloc: Global, items: &[T]) -> Result<SharedSeq<T>, Memory>
+    ensures { IfOk result (λ list. list ≡ items.now) }
+{
+    Ok(SharedSeq::from_vec(Vec::from_clones(alloc, items)?)?)
 }

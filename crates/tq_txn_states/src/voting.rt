@@ -10,7 +10,6 @@ ghost use Rattle.tq_txn_states.specs.Open as sets;
 ghost use Rattle.tq_txn_states.specs.Voting as spec;
 
 use crate::ended::verdict_of;
-use crate::open::copy_of;
 use crate::told::told_again;
 use crate::votes::{
     Cast, are_writes_at, cast_in, has_vote, has_votes, is_ask_at, lost_file, place_of_server,
@@ -21,7 +20,7 @@ use std::alloc::Global;
 use std::marker::Model;
 use tq_asks::{NodeAsk, Verdict, WorkAsk};
 use tq_desk::{Op, Vote};
-use tq_shape::{Memory, ServerId, Shared, SharedSeq};
+use tq_shape::{Memory, ServerId, Shared};
 
 /// A transaction that gathers votes.
 pub struct Voting {
@@ -222,13 +221,6 @@ impl Voting {
             return Err(TxnFault::LostLock { file: *file });
         }
         Ok(cast)
-    }
-
-    #[inline(always)]
-    pub(crate) fn copy_votes(&self) -> Result<SharedSeq<Vote>, Memory>
-        ensures { IfOk result (λ votes. votes ≡ self.now.votes) }
-    {
-        copy_of(&self.votes)
     }
 
     /// Keeps the ask of a server, if it has all that the transaction writes, none is kept and a voter has not voted. It
