@@ -25,6 +25,7 @@ pub(crate) struct Cast {
 }
 
 /// The vote for the transaction that an answer tells of.
+#[inline(always)]
 pub(crate) fn cast_in(txn: u64, told: NodeTold) -> Option<Cast>
     ensures value { option_map (λ cast. cast.vote) result ≡ spec.vote_of txn told }
     ensures server { IfSome result (λ cast. cast.vote.server ≡ told.server) }
