@@ -144,6 +144,7 @@ fn decide_again(ended: &Ended, decide: &NodeAsk) -> Result<NodeAsk, Memory>
 }
 
 /// Tells a server the verdict by this ask; where nothing is prepared there, the locks are released.
+#[inline(always)]
 fn end_at<A: Asker>(
     asker: &mut A,
     alloc: Global,
@@ -165,6 +166,7 @@ fn end_at<A: Asker>(
 }
 
 /// Tells each of the servers the verdict, in their order, by the same ask.
+#[inline(always)]
 fn end_by<A: Asker>(
     asker: &mut A,
     alloc: Global,
