@@ -22,14 +22,14 @@ use Rattle.tq_txn.specs.Told.{IsStill, levels_of, number_of, EndsWhereTold, IsAn
 use Rattle.tq_txn.proofs.EndLaws.{Untold, ends_after, ends_answered, ends_before, ends_nothing, ends_refused, resolved_answered, resolved_ends, resolved_still, gathered_on, still_same}
 use Rattle.tq_txn.proofs.KnownLaws.{knows_answered, knows_grow, Grown, ends_as_told, ends_unasked, ends_within}
 
-module _ (servers rest : List Server) (server : Server) (old new : VotingView) (is : servers ≡ server ∷ rest) where
-  pub prepares_off : (fault : LineFault) (told after : List Exchange) → Follows (prepare_line old server.number) told after (ended_by (Err fault) new) → Follows (prepares_line (numbers_of servers) old) told after (ended_by (Err fault) new)
+module _ (voters rest : List ℕ) (server : ℕ) (old new : VotingView) (is : voters ≡ server ∷ rest) where
+  pub prepares_off : (fault : LineFault) (told after : List Exchange) → Follows (prepare_line old server) told after (ended_by (Err fault) new) → Follows (prepares_line voters old) told after (ended_by (Err fault) new)
   prepares_off fault told after first =
-      rw is (follows_off (prepare_line old server.number) (λ s. s) (λ all s. prepares_line (numbers_of rest) s) fault new new told after refl first)
+      rw is (follows_off (prepare_line old server) (λ s. s) (λ all s. prepares_line rest s) fault new new told after refl first)
 
-  pub prepares_on : (told mid after : List Exchange) (end : Option (LineEnd (Unit {0}) VotingView)) → Follows (prepare_line old server.number) told mid (Some (record { answer = Ok tt; after = new })) → Follows (prepares_line (numbers_of rest) new) mid after end → Follows (prepares_line (numbers_of servers) old) told after end
+  pub prepares_on : (told mid after : List Exchange) (end : Option (LineEnd (Unit {0}) VotingView)) → Follows (prepare_line old server) told mid (Some (record { answer = Ok tt; after = new })) → Follows (prepares_line rest new) mid after end → Follows (prepares_line voters old) told after end
   prepares_on told mid after end first more =
-      rw is (follows_on (prepare_line old server.number) (λ s. s) (λ all s. prepares_line (numbers_of rest) s) tt new told mid after end first more)
+      rw is (follows_on (prepare_line old server) (λ s. s) (λ all s. prepares_line rest s) tt new told mid after end first more)
 
 decision_follows : (old : VotingView) (told : DeskTold) (answer : Result ℕ LineFault) (after : Txn) (exchanges : List Exchange) → answer ≡ commit_answer told.reply → after ≡ txn_after_answer old told → Follows (answers (commit_answer told.reply) (txn_after_answer old told)) exchanges exchanges (ended_by answer after)
 decision_follows old told answer after exchanges is leaves =
@@ -92,16 +92,14 @@ module _ (old : VotingView) (answer : Result ℕ LineFault) (left : Txn) (told m
       let P : Result ℕ LineFault → Type 0 = λ a. Follows (decide_line old) told mid (ended_by a left) in
       follows_on (decide_line old) (λ t. t) (λ s t. commit_end s t) serial left told mid after end (subst P is first) more
 
-module _ (old new : VotingView) (ids : List Server) (numbers : numbers_of ids ≡ old.txn.voters) (told mid : List Exchange) where
-  pub commit_off : (fault : LineFault) → Follows (prepares_line (numbers_of ids) old) told mid (ended_by (Err fault) new) → Follows (commit_line old) told mid (ended_by (Err fault) (states.Voting new))
+module _ (old new : VotingView) (told mid : List Exchange) where
+  pub commit_off : (fault : LineFault) → Follows (prepares_line old.txn.voters old) told mid (ended_by (Err fault) new) → Follows (commit_line old) told mid (ended_by (Err fault) (states.Voting new))
   commit_off fault first =
-      let P : List ℕ → Type 0 = λ ns. Follows (prepares_line ns old) told mid (ended_by (Err fault) new) in
-      follows_off (prepares_line old.txn.voters old) (λ s. states.Voting s) (λ all s. decide_and_end_line s) fault new (states.Voting new) told mid refl (subst P numbers first)
+      follows_off (prepares_line old.txn.voters old) (λ s. states.Voting s) (λ all s. decide_and_end_line s) fault new (states.Voting new) told mid refl first
 
-  pub commit_on : (after : List Exchange) (end : Option (LineEnd ℕ Txn)) → Follows (prepares_line (numbers_of ids) old) told mid (Some (record { answer = Ok tt; after = new })) → Follows (decide_and_end_line new) mid after end → Follows (commit_line old) told after end
+  pub commit_on : (after : List Exchange) (end : Option (LineEnd ℕ Txn)) → Follows (prepares_line old.txn.voters old) told mid (Some (record { answer = Ok tt; after = new })) → Follows (decide_and_end_line new) mid after end → Follows (commit_line old) told after end
   commit_on after end first more =
-      let P : List ℕ → Type 0 = λ ns. Follows (prepares_line ns old) told mid (Some (record { answer = Ok tt; after = new })) in
-      follows_on (prepares_line old.txn.voters old) (λ s. states.Voting s) (λ all s. decide_and_end_line s) tt new told mid after end (subst P numbers first) more
+      follows_on (prepares_line old.txn.voters old) (λ s. states.Voting s) (λ all s. decide_and_end_line s) tt new told mid after end first more
 
 -- ---- ending laws
 

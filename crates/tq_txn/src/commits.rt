@@ -1,8 +1,6 @@
 //! The commit of a transaction.
 
-ghost use Rattle.std.specs.Prelude.{◌≡◌, ◌==◌, Err, true, IfOk};
-ghost use Rattle.std.specs.List.{list_all};
-ghost use Rattle.tq_coterie.specs.Coterie.{numbers_of};
+ghost use Rattle.std.specs.Prelude.{◌≡◌, Err};
 ghost use Rattle.tq_desk.specs.DeskStep as log;
 ghost use Rattle.tq_txn.specs.Commits.{resolved_by};
 ghost use Rattle.tq_txn.specs.Commits as spec;
@@ -10,7 +8,6 @@ ghost use Rattle.tq_txn.specs.Dialogue as line;
 ghost use Rattle.tq_txn.specs.Told as states;
 ghost use Rattle.tq_txn.specs.Told.{CitesSince, IsEnding, IsKnown, Knows};
 ghost use Rattle.tq_txn_states.specs.Ended as ending;
-ghost use Rattle.tq_txn_states.specs.Open.{HasVoters};
 ghost use Rattle.tq_txn_states.specs.Voting.{IsVotedOn, evidence_of};
 
 use crate::endings::{end_at_each, prepare_at};
@@ -19,30 +16,32 @@ use crate::{Asker, Decision, DeskTold, LineFault, Ready, Txn, Voting};
 use std::alloc::Global;
 use tq_asks::{CitedVote, Verdict};
 use tq_desk::{DeskRefusal, DeskReply};
-use tq_shape::{Memory, Part, ServerId, SharedSeq};
+use tq_shape::{Part, SharedSeq};
 
-/// The votes of the servers, in their order; the first refusal ends it. No vote gathered is lost.
+/// The votes of all voters, in their order; the first refusal ends it. No vote gathered is lost.
 fn prepare_each<A: Asker>(
     asker: &mut A,
     alloc: Global,
     voting: &mut Voting,
-    servers: &[ServerId],
 ) -> Result<(), LineFault>
-    requires { list_all (λ id. id.levels == A.levels asker.old) servers.now ≡ true }
-    ensures asks { line.Follows (spec.prepares_line (numbers_of servers.now) voting.old)
+    requires { voting.old.txn.levels ≡ A.levels asker.old }
+    ensures asks { line.Follows (spec.prepares_line voting.old.txn.voters voting.old)
         (A.told asker.old) (A.told asker.new) (line.ended_by result voting.new) }
     ensures kept { IsVotedOn voting.old voting.new }
     ensures knows { IsKnown Txn.Voting (A.told asker.old) (A.told asker.new) voting.old voting.new }
     ensures tree { A.levels asker.new ≡ A.levels asker.old }
 {
-    for server in servers {
-        prepare_at(asker, alloc, voting, *server)?;
+    let count = voting.voters().len();
+    for place in 0..count {
+        let server = voting.voters()[place];
+        prepare_at(asker, alloc, voting, server)?;
     }
     Ok(())
 }
 
 /// What the desk's answer to a commit says, and the transaction after it. It takes no memory: what the desk told stands in
 /// its state.
+#[inline(always)]
 fn decision_of(ready: Ready, told: DeskTold, cited: SharedSeq<CitedVote>) -> Decision
     requires asked { told.ask ≡ evidence_of ready }
     requires cited { cited ≡ log.cited_votes ready.votes }
@@ -89,6 +88,7 @@ fn refused(ready: Ready, refusal: DeskRefusal, cite: u64) -> Decision
 
 /// Asks the desk to commit a transaction whose votes are all there. After a fault the transaction comes back with what
 /// it read and wrote and with its votes, or ended where the desk said how it ended before.
+#[inline(always)]
 pub fn decide<A: Asker>(asker: &mut A, alloc: Global, voting: Voting) -> Decision
     requires { voting.txn.levels ≡ A.levels asker.old }
     ensures asks { line.Follows (spec.decide_line voting)
@@ -130,17 +130,6 @@ pub fn decide<A: Asker>(asker: &mut A, alloc: Global, voting: Voting) -> Decisio
     }
 }
 
-/// The voters, in a list of their own.
-fn voters_of(alloc: Global, voting: &Voting) -> Result<Vec<ServerId>, Memory>
-    ensures numbers { IfOk result (λ voters. numbers_of voters.items ≡ voting.now.txn.voters) }
-    ensures tree { IfOk result (λ voters.
-        list_all (λ id. id.levels == voting.now.txn.levels) voters.items ≡ true) }
-    ensures exact { HasVoters voting.now.txn }
-{
-    let voters = Vec::from_slice(alloc, voting.voters())?;
-    Ok(voters)
-}
-
 /// Commits a transaction: the votes still missing, the commit at the desk, and then the ending. A refused vote ends
 /// it before the desk is asked; where the desk refuses, there is no ending.
 /// After any fault it comes back with each vote gathered, or ended as the desk told.
@@ -156,14 +145,7 @@ pub fn commit<A: Asker>(asker: &mut A, alloc: Global, voting: Voting) -> Decisio
     ensures tree { A.levels asker.new ≡ A.levels asker.old }
 {
     let mut voting = voting;
-    let voters = match voters_of(alloc, &voting) {
-        Ok(voters) => voters,
-        Err(_) => return Decision {
-            answer: Err(LineFault::Memory),
-            txn: Txn::Voting(voting),
-        },
-    };
-    if let Err(fault) = prepare_each(asker, alloc, &mut voting, voters.as_slice()) {
+    if let Err(fault) = prepare_each(asker, alloc, &mut voting) {
         return Decision {
             answer: Err(fault),
             txn: Txn::Voting(voting),
