@@ -111,6 +111,7 @@ impl Asker for Recorder {
 
     ghost levels = { λ a. a.journals.levels };
 
+    #[inline(always)]
     fn node(&mut self, alloc: Global, server: ServerId, ask: NodeAsk) -> Result<NodeTold, AskFault>
         requires { server.levels ≡ self.old.journals.levels }
         ensures exchanges { self.new.told ≡ self.old.told
@@ -164,6 +165,7 @@ impl Asker for Recorder {
         }
     }
 
+    #[inline(always)]
     fn view(&mut self, alloc: Global, ask: ViewAsk) -> Result<ViewTold, AskFault>
         ensures exchanges { self.new.told ≡ self.old.told ++ view_exchange ask result }
         ensures same { IfOk result (λ t. t.ask ≡ ask) }

@@ -38,6 +38,7 @@ pub(crate) fn stand_in(alloc: Global, txn: &Txn) -> Txn
 }
 
 /// The transaction as it gathers votes, if it has an operation and did not end.
+#[inline(always)]
 pub(crate) fn voting_of(txn: Txn, text: &mut Vec<u8>) -> Result<Closed, Memory>
     ensures closed { IfOk result (λ state. spec.IsClosed txn state text.old.items text.new.items) }
     ensures kept { OnErr result (Extends text.old.items text.new.items) }
