@@ -240,6 +240,7 @@ impl Service {
 
     /// Asks the view: the ask is entered into its journal with its reply, which is told with the number of the entry.
     /// Where the ask is not taken, everything is as it was.
+    #[inline(always)]
     pub fn ask_view(&mut self, alloc: Global, ask: ViewAsk) -> Result<Answered<ViewReply>, AskFault>
         ensures told { spec.IsTold self.old (Step.View ask) (told_by Reply.View result) }
         ensures after { OnOk result (self.new ≡ spec.world_after self.old (Step.View ask)) }
