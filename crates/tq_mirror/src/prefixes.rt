@@ -15,12 +15,16 @@ use std::mem;
 use tq_shape::{Levels, Limits, Memory, Part, Seq};
 use tq_tables::{DeskEntry, NodeEntry, TabledJournals, Tables, ViewEntry};
 
+/// So many entries of tables are copied and let go of while one more is asked, about; a server is as dear as these.
+const COPIES: usize = 8;
+
 /// What was pulled of the journals of a system: of each part the first entries, and the tables over them, which alone
 /// keep how the parts stand. Contracts see it as these entries; the journals that have them alone are legal.
 ///
 /// Spare tables, equal to these, may stand beside them. Entries that come are tried on the spare tables, which take the
 /// place of the tables where all is well; the tables that stood there follow then, and are the spare ones. So each entry is
-/// asked twice, and nothing is copied but where there are no spare tables.
+/// asked twice, and nothing is copied but where there are no spare tables: at first, and behind so many entries that to
+/// follow would cost more.
 pub struct Prefixes {
     tabled: TabledJournals,
     spare: Option<Tables>,
@@ -123,6 +127,16 @@ impl Prefixes {
         self.tabled.servers[place].len()
     }
 
+    /// Whether so many entries are much of all that was pulled: then tables that follow them cost more than a copy.
+    fn is_much(&self, entries: usize) -> bool {
+        let mut all = self.tabled.desk.len();
+        all = all.saturating_add(self.tabled.view.len());
+        for journal in self.tabled.servers.as_slice() {
+            all = all.saturating_add(journal.len()).saturating_add(COPIES);
+        }
+        entries > all / COPIES
+    }
+
     /// What was pulled of the desk.
     pub fn desk(&self) -> &[DeskEntry]
         ensures { result.now ≡ self.now.desk }
@@ -159,9 +173,14 @@ impl Prefixes {
                 entries: Entries::Server(Seq::from_vec(entries)),
             });
         };
+        let more = entries.len();
         let place = (number - 1) as usize;
         let journal = &mut self.tabled.servers[place];
         let behind = put_behind(journal, &mut self.tabled.tables, entries, ahead)?;
+        self.spare = None;
+        if self.is_much(more) {
+            return Ok(());
+        }
         let fresh = &self.tabled.servers[place].as_slice()[known..];
         self.spare = follow_server(alloc, behind, number, known, fresh).unwrap_or(None);
         Ok(())
@@ -188,8 +207,13 @@ impl Prefixes {
             });
         };
         let known = self.tabled.desk.len();
+        let more = entries.len();
         let tabled = &mut self.tabled;
         let behind = put_behind(&mut tabled.desk, &mut tabled.tables, entries, ahead)?;
+        self.spare = None;
+        if self.is_much(more) {
+            return Ok(());
+        }
         let fresh = &self.tabled.desk.as_slice()[known..];
         self.spare = follow_desk(alloc, behind, fresh).unwrap_or(None);
         Ok(())
@@ -214,8 +238,13 @@ impl Prefixes {
             });
         };
         let known = self.tabled.view.len();
+        let more = entries.len();
         let tabled = &mut self.tabled;
         let behind = put_behind(&mut tabled.view, &mut tabled.tables, entries, ahead)?;
+        self.spare = None;
+        if self.is_much(more) {
+            return Ok(());
+        }
         let fresh = &self.tabled.view.as_slice()[known..];
         self.spare = follow_view(alloc, behind, fresh).unwrap_or(None);
         Ok(())

@@ -7,7 +7,7 @@ use Rattle.tq_tables.specs.Tabled.{journals_in}
 use Rattle.tq_mirror.specs.Prefixes.{AreAhead}
 use Rattle.tq_mirror.proofs.Standing.{Taken, alike, found_ahead, from_on, not_taken, on_error, server_followed, server_fresh, server_stays, spare_alike, spare_kept}
 use Rattle.tq_mirror.proofs.prefixes.Prefixes.take_server.Goals as goal
-use Rattle.tq_mirror.proofs.prefixes.Prefixes.take_server.Goals.{After-unwrap_or}
+use Rattle.tq_mirror.proofs.prefixes.Prefixes.take_server.Goals.{In_ok-behind}
 
 pub ahead_of_server-requires-clause-few : goal.ahead_of_server-requires-clause-few
 ahead_of_server-requires-clause-few c =
@@ -48,17 +48,23 @@ invariant_of-self c =
     )
 
 -- the server gives the entries next, and there are enough
-ahead : (c : After-unwrap_or) → AreAhead c.put_behind.new.tables c.args.self.now (parts.Server c.args.number) (entries.Server c.args.entries.items) c.args.least
+ahead : (c : In_ok-behind) → AreAhead c.put_behind.new.tables c.args.self.now (parts.Server c.args.number) (entries.Server c.args.entries.items) c.args.least
 ahead c = found_ahead c.in_ok-ahead.field-0 c.put_behind.new.tables c.args.self.now (parts.Server c.args.number) entries.Server c.as_slice.result.now c.args.entries.items c.args.least c.as_slice.ensures.value (c.in-Some.is ∙ ap Some (sym c.in_ok-behind.ensures.ahead)) c.in_ok-ahead.ensures.ahead
 
-taken : (c : After-unwrap_or) → Taken c.put_behind.new.tables (journals_in c.put_behind.new.tables c.self.inside.tabled.limits (map (λ journal. journal.items) (set c.self.inside.tabled.servers.items (c.args.number - 1) c.put_behind.new.journal)) c.self.inside.tabled.desk.items c.self.inside.tabled.view.items) c.args.self.now (parts.Server c.args.number) (entries.Server c.args.entries.items) c.args.least
+taken : (c : In_ok-behind) → Taken c.put_behind.new.tables (journals_in c.put_behind.new.tables c.self.inside.tabled.limits (map (λ journal. journal.items) (set c.self.inside.tabled.servers.items (c.args.number - 1) c.put_behind.new.journal)) c.self.inside.tabled.desk.items c.self.inside.tabled.view.items) c.args.self.now (parts.Server c.args.number) (entries.Server c.args.entries.items) c.args.least
 taken c =
     server_followed (λ journal. journal.items) c.self.inside.tabled.tables c.self.inside.tabled.limits c.self.inside.tabled.servers.items c.self.inside.tabled.desk.items c.self.inside.tabled.view.items c.args.self.now (c.self.view_is ∙ c.in_ok-ahead.ensures.same) c.self.invariant.0 c.args.number c.requires
     c.index_mut-journal.result.now c.put_behind.new.journal c.index_mut-journal.ensures.value c.put_behind.new.tables c.args.entries.items c.args.least (ahead c) c.in_ok-behind.ensures.entries
 
 pub invariant_of-self-2 : goal.invariant_of-self-2
-invariant_of-self-2 c =
-    let end = (goal.at.invariant_of-self-2 c).After-unwrap_or in
+invariant_of-self-2 c = ((taken (goal.at.invariant_of-self-2 c).In_ok-behind).keeps, tt)
+
+pub invariant_of-self-then-is_much : goal.invariant_of-self-then-is_much
+invariant_of-self-then-is_much c = ((taken (goal.at.invariant_of-self-then-is_much c).In_ok-behind).keeps, tt)
+
+pub invariant_of-self-3 : goal.invariant_of-self-3
+invariant_of-self-3 c =
+    let end = (goal.at.invariant_of-self-3 c).In_ok-behind in
     let fresh = server_fresh (λ journal. journal.items) c.self.inside.tabled.tables c.self.inside.tabled.limits c.self.inside.tabled.servers.items c.self.inside.tabled.desk.items c.self.inside.tabled.view.items c.args.self.now (c.self.view_is ∙ c.in_ok-ahead.ensures.same) c.self.invariant.0 c.args.number c.requires
     c.index_mut-journal.result.now c.put_behind.new.journal c.index_mut-journal.ensures.value c.server_count-known.result c.index.result.now c.args.entries.items c.as_slice-2.result.now
     c.server_count-known.ensures.value c.index.ensures c.in_ok-behind.ensures.entries c.as_slice-2.ensures.value in
@@ -76,5 +82,8 @@ returns-in_err-behind c =
     (on_error _ c.from_residual-in_err-behind.result (alike c.self.inside.tabled.tables c.put_behind.new.tables _ _ _ _ c.args.self.now c.in_err-behind.ensures.unchanged stays).leads)
     (search rules)
 
+pub returns-then-is_much : goal.returns-then-is_much
+returns-then-is_much c = let done = taken (goal.at.returns-then-is_much c).In_ok-behind in record { grown = done.leads; least = done.enough; count = done.count; err = tt; fault = tt }
+
 pub returns : goal.returns
-returns c = let done = taken (goal.at.returns c).After-unwrap_or in record { grown = done.leads; least = done.enough; count = done.count; err = tt; fault = tt }
+returns c = let done = taken (goal.at.returns c).In_ok-behind in record { grown = done.leads; least = done.enough; count = done.count; err = tt; fault = tt }
