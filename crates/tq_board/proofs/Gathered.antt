@@ -1,8 +1,8 @@
 -- What is put behind a text, piece after piece. A list of values of what a function gives. Text that goes to a sink as
 -- it comes, step by step.
-use Rattle.std.proofs.Common.{◌≡◌, ℕ, List, [], ◌∷◌, ◌++◌, Result, Ok, Err, ap, sym, subst, append_assoc, map, refl, ◌/◌, ◌%◌, Bool, true, false, true≢false, Option, slice_index, length, take, drop, ◌∙◌, arith}
+use Rattle.std.proofs.Common.{◌≡◌, ℕ, List, [], ◌∷◌, ◌++◌, Result, Ok, Err, ap, sym, subst, append_assoc, map, refl, Bool, true, false, true≢false, Option, length, take, drop, ◌∙◌, arith}
 use Rattle.json.specs.Print.{escape, quoted}
-use Rattle.tq_board.specs.Lines.{Added, Adds, Spill, IsSpilled, Settles, Spills, Ends, IsWrittenOut}
+use Rattle.tq_board.specs.Lines.{in_quotes, Added, Adds, Spill, IsSpilled, Settles, Spills, Ends, IsWrittenOut}
 use Rattle.std.specs.List.{AllByRecursion}
 use Rattle.serde_json.specs.Data.{Data, item}
 use Rattle.tq_board.specs.Values.{value_items}
@@ -10,7 +10,6 @@ use Rattle.std.proofs.lemmas.List.{append-nil, take-append-drop}
 use Rattle.std.proofs.Math.Seq.{take-append_seam}
 use Rattle.std.specs.Prelude.{is_err}
 use Rattle.std.specs.Io.KnownBytes.{Appends}
-use Rattle.hex.specs.Hex.{encode_with, encode_lower, lower_digits}
 use Rattle.tq_devices.specs.Devices.{IsWritten}
 use Rattle.tq_devices.proofs.Written.{Appends-then}
 use Rattle.tq_devices.specs.declared.fault.RunFault.{RunFault}
@@ -26,10 +25,9 @@ pub behind : {O E : Type 0} {Puts : O → O → List ℕ → Type 0} {old mid : 
 behind (Ok u) new more first then = added first then
 behind (Err e) new more first then = tt
 
--- a quote, a text that needs no escape, and a quote
-pub in-quotes : {O : Type 0} {Puts : O → O → List ℕ → Type 0} {old quote inside new : O} (text : List ℕ) → escape text ≡ text → Added Puts old quote (34 ∷ []) → Added Puts quote inside text → Added Puts inside new (34 ∷ []) → Added Puts old new (quoted text)
-in-quotes {O} {Puts} {old} {quote} {inside} {new} text plain first then last =
-    subst (λ bytes. Added Puts old new bytes) (ap (λ same. 34 ∷ (same ++ 34 ∷ [])) (sym plain)) (added first (added then last))
+-- a text that needs no escape stands as it is between quotes
+pub as-quoted : (text : List ℕ) → escape text ≡ text → in_quotes text ≡ quoted text
+as-quoted text plain = ap (λ same. 34 ∷ (same ++ 34 ∷ [])) (sym plain)
 
 -- ---- fused
 
@@ -91,26 +89,14 @@ behind-room taken failures has_failed room room_now bytes is = record {
 pub settle-then-spill : (old mid new : Spill) (bytes : List ℕ) → Settles old mid → Spills mid new bytes → Spills old new bytes
 settle-then-spill old mid new bytes first then = record { after = λ taken failures text h. then.after taken failures text (first.after taken failures text h) }
 
+pub spill-then-spill : (old mid new : Spill) (first_bytes bytes : List ℕ) → Spills old mid first_bytes → Spills mid new bytes → Spills old new (first_bytes ++ bytes)
+spill-then-spill old mid new first_bytes bytes first then = record {
+  after = λ taken failures text h.
+      subst (λ all. IsSpilled taken failures new all) (append_assoc text first_bytes bytes) (then.after taken failures (text ++ first_bytes) (first.after taken failures text h));
+}
+
 pub spill-then-settle : (old mid new : Spill) (bytes : List ℕ) → Spills old mid bytes → Settles mid new → Spills old new bytes
 spill-then-settle old mid new bytes first then = record { after = λ taken failures text h. then.after taken failures (text ++ bytes) (first.after taken failures text h) }
-
--- the digits of some bytes, and then those of more
-digits-append : (t xs ys : List ℕ) → encode_with t (xs ++ ys) ≡ encode_with t xs ++ encode_with t ys
-unfolding encode_with
-digits-append t [] ys = refl
-digits-append t (x ∷ xs) ys = ap (λ rest. slice_index t (x / 16) ∷ slice_index t (x % 16) ∷ rest) (digits-append t xs ys)
-
-pub no-digits : (old : Spill) → Spills old old (encode_lower [])
-unfolding encode_with
-no-digits old = record { after = λ taken failures text h. subst (λ all. IsSpilled taken failures old all) (sym (append-nil text)) h }
-
-pub more-digits : (old mid new : Spill) (front part : List ℕ) → Spills old mid (encode_lower front) → Spills mid new (encode_lower part) → Spills old new (encode_lower (front ++ part))
-more-digits old mid new front part first then = record {
-  after = λ taken failures text h.
-      subst (λ all. IsSpilled taken failures new all)
-      (append_assoc text (encode_lower front) (encode_lower part) ∙ ap (λ digits. text ++ digits) (sym (digits-append lower_digits front part)))
-      (then.after taken failures (text ++ encode_lower front) (first.after taken failures text h));
-}
 
 -- the room is written out and the sink has not failed, or it has
 pub ends-whole : (old new : Spill) → Settles old new → new.has_failed ≡ false → new.room ≡ [] → Ends (Ok tt) old new.taken new.failures

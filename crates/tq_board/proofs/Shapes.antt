@@ -43,8 +43,7 @@ use Rattle.tq_live.specs.declared.view.ViewReply.TheVariants as view_reply
 use Rattle.tq_tables.specs.Journals.{ViewEntry, JournalsView}
 use Rattle.tq_board.specs.Values.{whole, value_items, list_value, kind_value, code_value, entry_value}
 use Rattle.tq_board.specs.Nodes as nodes
-use Rattle.tq_board.specs.Form as desks
-use Rattle.tq_board.specs.Views as views
+use Rattle.tq_board.specs.Form as forms
 use Rattle.tq_board.specs.Form.{limits_value, journals_value}
 
 pub found : (levels : ℕ) (servers : List Server) (numbers : List ℕ) → numbers_of servers ≡ numbers → IsMemberList levels servers → is_quorum levels numbers ≡ true
@@ -163,56 +162,56 @@ node-entry-shaped = entry-shaped 124 nodes.node_ask_value nodes.node_reply_value
 
 -- ---- the desk
 
-grant-shaped : (grant : Grant) → IsShaped (desks.grant_value grant) 120
+grant-shaped : (grant : Grant) → IsShaped (forms.grant_value grant) 120
 grant-shaped grant = (omega arith, (tt, (tt, (tt, (tt, (tt, tt))))), refl)
 
-op-shaped : (op : Op) → IsShaped (desks.op_value op) 122
-op-shaped op = (omega arith, (tt, (tt, (list-shaped desks.grant_value 121 (omega arith) grant-shaped op.grants, (tt, (tt, tt))))), refl)
+op-shaped : (op : Op) → IsShaped (forms.op_value op) 122
+op-shaped op = (omega arith, (tt, (tt, (list-shaped forms.grant_value 121 (omega arith) grant-shaped op.grants, (tt, (tt, tt))))), refl)
 
-vote-shaped : (vote : Vote) → IsShaped (desks.vote_value vote) 122
+vote-shaped : (vote : Vote) → IsShaped (forms.vote_value vote) 122
 vote-shaped vote =
     (omega arith, (list-shaped nodes.held_value 121 (omega arith) (held-shaped 120 (omega arith)) vote.held, (tt, (tt, (list-shaped nodes.write_value 121 (omega arith) (write-shaped 120 (omega arith)) vote.writes, tt)))), refl)
 
-desk-ask-shaped : (a : DeskAsk) → IsShaped (desks.desk_ask_value a) 124
+desk-ask-shaped : (a : DeskAsk) → IsShaped (forms.desk_ask_value a) 124
 desk-ask-shaped desk.Begin = kind-shaped 124 (omega arith) _
 desk-ask-shaped (desk.Commit txn ops votes) =
-    (omega arith, (tt, (list-shaped desks.op_value 123 (omega arith) op-shaped ops, (tt, (list-shaped desks.vote_value 123 (omega arith) vote-shaped votes, tt)))), refl)
+    (omega arith, (tt, (list-shaped forms.op_value 123 (omega arith) op-shaped ops, (tt, (list-shaped forms.vote_value 123 (omega arith) vote-shaped votes, tt)))), refl)
 desk-ask-shaped (desk.Resolve txn) = (omega arith, (tt, (tt, tt)), refl)
 
-desk-refusal-shaped : (r : DeskRefusal) → IsShaped (desks.desk_refusal_value r) 124
+desk-refusal-shaped : (r : DeskRefusal) → IsShaped (forms.desk_refusal_value r) 124
 desk-refusal-shaped (desk_refusal.Decided v) = (omega arith, (tt, (tt, (verdict-shaped 123 (omega arith) v, tt))), refl)
 desk-refusal-shaped (desk_refusal.BadEvidence rule) = (omega arith, (tt, (tt, (tt, tt))), refl)
 desk-refusal-shaped _ = code-shaped 124 (omega arith) _
 
-desk-reply-shaped : (r : DeskReply) → IsShaped (desks.desk_reply_value r) 124
+desk-reply-shaped : (r : DeskReply) → IsShaped (forms.desk_reply_value r) 124
 desk-reply-shaped (desk_reply.Verdict v) = (omega arith, (tt, (verdict-shaped 123 (omega arith) v, tt)), refl)
 desk-reply-shaped (desk_reply.Refused r) = desk-refusal-shaped r
 desk-reply-shaped _ = (omega arith, (tt, (tt, tt)), refl)
 
-pub desk-entry-shaped : (entry : DeskEntry) → IsShaped (desks.desk_entry_value entry) 125
-desk-entry-shaped = entry-shaped 125 desks.desk_ask_value desks.desk_reply_value (omega arith) desk-ask-shaped desk-reply-shaped
+pub desk-entry-shaped : (entry : DeskEntry) → IsShaped (forms.desk_entry_value entry) 125
+desk-entry-shaped = entry-shaped 125 forms.desk_ask_value forms.desk_reply_value (omega arith) desk-ask-shaped desk-reply-shaped
 
 -- ---- the view
 
-servers-shaped : (list : ServerList) → IsShaped (views.servers_value list) 123
+servers-shaped : (list : ServerList) → IsShaped (forms.servers_value list) 123
 servers-shaped list = list-shaped whole 123 (omega arith) (λ n. tt) list.servers
 
-view-ask-shaped : (a : ViewAsk) → IsShaped (views.view_ask_value a) 124
+view-ask-shaped : (a : ViewAsk) → IsShaped (forms.view_ask_value a) 124
 view-ask-shaped (view.SetCost server read write) = (omega arith, (tt, (tt, (tt, (tt, tt)))), refl)
 view-ask-shaped (view.Mark server up) = (omega arith, (tt, (tt, (tt, tt))), refl)
 view-ask-shaped (view.Choose purpose) = (omega arith, (tt, (tt, tt)), refl)
 
-view-refusal-shaped : (r : ViewRefusal) → IsShaped (views.view_refusal_value r) 124
+view-refusal-shaped : (r : ViewRefusal) → IsShaped (forms.view_refusal_value r) 124
 view-refusal-shaped (view_refusal.Blocked blocker) = (omega arith, (tt, (tt, (servers-shaped blocker, tt))), refl)
 view-refusal-shaped _ = code-shaped 124 (omega arith) _
 
-view-reply-shaped : (r : ViewReply) → IsShaped (views.view_reply_value r) 124
+view-reply-shaped : (r : ViewReply) → IsShaped (forms.view_reply_value r) 124
 view-reply-shaped (view_reply.Chosen quorum cost) = (omega arith, (tt, (tt, (servers-shaped quorum, tt))), refl)
 view-reply-shaped (view_reply.Refused r) = view-refusal-shaped r
 view-reply-shaped _ = kind-shaped 124 (omega arith) _
 
-pub view-entry-shaped : (entry : ViewEntry) → IsShaped (views.view_entry_value entry) 125
-view-entry-shaped = entry-shaped 125 views.view_ask_value views.view_reply_value (omega arith) view-ask-shaped view-reply-shaped
+pub view-entry-shaped : (entry : ViewEntry) → IsShaped (forms.view_entry_value entry) 125
+view-entry-shaped = entry-shaped 125 forms.view_ask_value forms.view_reply_value (omega arith) view-ask-shaped view-reply-shaped
 
 -- ---- the journals of all parts
 
@@ -223,7 +222,7 @@ pub journals-shaped : (journals : JournalsView) → IsShaped (journals_value jou
 journals-shaped journals = (
   omega arith,
   (
-    list-shaped desks.desk_entry_value 126 (omega arith) desk-entry-shaped journals.desk,
+    list-shaped forms.desk_entry_value 126 (omega arith) desk-entry-shaped journals.desk,
     (
       tt,
       (
@@ -232,7 +231,7 @@ journals-shaped journals = (
           limits-shaped journals.limits,
           (
             list-shaped (list_value nodes.node_entry_value) 126 (omega arith) (list-shaped nodes.node_entry_value 125 (omega arith) node-entry-shaped) journals.servers,
-            (list-shaped views.view_entry_value 126 (omega arith) view-entry-shaped journals.view, tt),
+            (list-shaped forms.view_entry_value 126 (omega arith) view-entry-shaped journals.view, tt),
           ),
         ),
       ),

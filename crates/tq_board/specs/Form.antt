@@ -1,7 +1,18 @@
--- What the desk is asked and what it replies, as values. The journals of all parts of a system, as one value of format
--- 2.
-use Rattle.std.specs.Prelude.{ℕ, List, codes, [], ◌∷◌, ◌++◌}
-use Rattle.serde_json.specs.Data.{Data, object, member, no_members, string}
+-- What the view and the desk are asked and what they reply, as values. The journals of all parts of a system, as one value of
+-- format 2.
+use Rattle.std.specs.Prelude.{codes, ℕ, List, [], ◌∷◌, ◌++◌}
+use Rattle.serde_json.specs.Data.{Data, object, member, no_members, string, boolean}
+use Rattle.tq_coterie.specs.Coterie.{ServerList}
+use Rattle.tq_live.specs.Costs.{purpose_text}
+use Rattle.tq_live.specs.declared.purpose.Purpose.{Purpose}
+use Rattle.tq_live.specs.declared.view.ViewAsk.{ViewAsk}
+use Rattle.tq_live.specs.declared.view.ViewAsk.TheVariants.{SetCost, Mark, Choose}
+use Rattle.tq_live.specs.declared.view.ViewReply.{ViewReply}
+use Rattle.tq_live.specs.declared.view.ViewReply.TheVariants as told
+use Rattle.tq_live.specs.declared.view.ViewRefusal.{ViewRefusal}
+use Rattle.tq_live.specs.declared.view.ViewRefusal.TheVariants.{NoSuchServer, BadCost, Blocked}
+use Rattle.tq_tables.specs.Journals.{ViewEntry, JournalsView}
+use Rattle.tq_board.specs.Values.{whole, list_value, kind_value, code_value, entry_value, content_value}
 use Rattle.tq_evidence.specs.declared.grant.Grant.{Grant}
 use Rattle.tq_evidence.specs.declared.op.Op.{Op}
 use Rattle.tq_evidence.specs.declared.op.OpKind.{OpKind}
@@ -16,14 +27,55 @@ use Rattle.tq_desk.specs.declared.ask.DeskRefusal.TheVariants.{NoSuchTxn, Decide
 use Rattle.tq_desk.specs.declared.ask.DeskReply.{DeskReply}
 use Rattle.tq_desk.specs.declared.ask.DeskReply.TheVariants.{Txn, Verdict, Committed, Refused}
 use Rattle.tq_desk.specs.DeskJournal.{DeskEntry}
-use Rattle.tq_board.specs.Values.{whole, content_value, list_value, kind_value, code_value, entry_value}
 use Rattle.tq_board.specs.Nodes.{mode_value, write_value, held_value, verdict_value, node_entry_value}
 use Rattle.serde_json.specs.Written.{compact_text}
 use Rattle.tq_shape.specs.Limits.{LimitsView}
-use Rattle.tq_tables.specs.Journals.{JournalsView}
 use Rattle.tq_json.specs.declared.format.Format.TheVariants.{Two}
 use Rattle.tq_json.specs.Member.{format_number}
-use Rattle.tq_board.specs.Views.{view_entry_value}
+
+-- the servers of a quorum or of a blocker, by their numbers
+abbrev pub servers_value : ServerList → Data
+servers_value list = list_value whole list.servers
+
+-- a purpose by its word
+abbrev pub purpose_value : Purpose → Data
+purpose_value purpose = string (purpose_text purpose)
+
+abbrev pub view_ask_value : ViewAsk → Data
+view_ask_value (SetCost server read write) =
+    object (member (codes "is") (string (codes "setcost"))
+    (member (codes "read") (whole read)
+    (member (codes "server") (whole server)
+    (member (codes "write") (whole write) no_members))))
+view_ask_value (Mark server up) =
+    object (member (codes "is") (string (codes "mark"))
+    (member (codes "server") (whole server)
+    (member (codes "up") (boolean up) no_members)))
+view_ask_value (Choose purpose) =
+    object (member (codes "is") (string (codes "choose"))
+    (member (codes "purpose") (purpose_value purpose) no_members))
+
+abbrev pub view_refusal_value : ViewRefusal → Data
+view_refusal_value NoSuchServer = code_value 31
+view_refusal_value BadCost = code_value 32
+view_refusal_value (Blocked blocker) =
+    object (member (codes "code") (whole 33)
+    (member (codes "is") (string (codes "refused"))
+    (member (codes "servers") (servers_value blocker) no_members)))
+
+abbrev pub view_reply_value : ViewReply → Data
+view_reply_value told.CostSet = kind_value (codes "costset")
+view_reply_value told.Marked = kind_value (codes "marked")
+view_reply_value (told.Chosen quorum cost) =
+    object (member (codes "cost") (whole cost)
+    (member (codes "is") (string (codes "chosen"))
+    (member (codes "servers") (servers_value quorum) no_members)))
+view_reply_value (told.Refused refusal) = view_refusal_value refusal
+
+abbrev pub view_entry_value : ViewEntry → Data
+view_entry_value = entry_value view_ask_value view_reply_value
+
+-- ---- desk
 
 abbrev pub kind_text : OpKind → List ℕ
 kind_text Read = codes "read"
@@ -98,7 +150,7 @@ desk_reply_value (Refused refusal) = desk_refusal_value refusal
 abbrev pub desk_entry_value : DeskEntry → Data
 desk_entry_value = entry_value desk_ask_value desk_reply_value
 
--- ---- form
+-- ---- journals
 
 abbrev pub limits_value : LimitsView → Data
 limits_value limits =

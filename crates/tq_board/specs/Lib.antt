@@ -2,5 +2,4 @@ pub mod Lines
 pub mod Values
 pub mod Nodes
 pub mod Form
-pub mod Views
 pub mod Sound

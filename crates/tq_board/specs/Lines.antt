@@ -20,6 +20,10 @@ pub record Added {O : Type 0} (Puts : O → O → List ℕ → Type 0) (old new 
 abbrev pub Adds : {O E : Type 0} → (O → O → List ℕ → Type 0) → Result (Unit {0}) E → O → O → List ℕ → Type 0
 Adds Puts result old new bytes = OnOk result (Added Puts old new bytes)
 
+-- a quote, the bytes as they are, and a quote
+abbrev pub in_quotes : List ℕ → List ℕ
+in_quotes bytes = 34 ∷ bytes ++ 34 ∷ []
+
 -- ---- text
 
 -- the bytes are a text of JSON, and the journals are those that its value is in format 2

@@ -1,7 +1,7 @@
 //! What the desk is asked and what it replies.
 use crate::codes;
 use crate::out::Out;
-use crate::to_json::{ToJson, put_after, put_code};
+use crate::to_json::{ToJson, put_code};
 use tq_desk::{DeskAsk, DeskRefusal, DeskReply};
 use tq_evidence::{Grant, Op, OpKind, Rule, Vote};
 
@@ -13,6 +13,7 @@ impl ToJson for OpKind {
 
     ghost sound = { IsAny };
 
+    #[tactic(auto, unfolding(json::specs::Print::escape_byte))]
     fn put<O: Out>(&self, out: &mut O) -> Result<(), O::Fault> {
         match self {
             OpKind::Read => out.push("\"read\""),
@@ -30,11 +31,11 @@ impl ToJson for Grant {
     ghost sound = { IsGrant };
 
     fn put<O: Out>(&self, out: &mut O) -> Result<(), O::Fault> {
-        put_after(out, "{\"content\":", &self.content)?;
-        put_after(out, ",\"mode\":", &self.mode)?;
-        put_after(out, ",\"number\":", &self.number)?;
-        put_after(out, ",\"server\":", &self.server)?;
-        put_after(out, ",\"version\":", &self.version)?;
+        self.content.put_after(out, "{\"content\":")?;
+        self.mode.put_after(out, ",\"mode\":")?;
+        self.number.put_after(out, ",\"number\":")?;
+        self.server.put_after(out, ",\"server\":")?;
+        self.version.put_after(out, ",\"version\":")?;
         out.push("}")
     }
 }
@@ -48,11 +49,11 @@ impl ToJson for Op {
     ghost sound = { IsOp };
 
     fn put<O: Out>(&self, out: &mut O) -> Result<(), O::Fault> {
-        put_after(out, "{\"content\":", &self.content)?;
-        put_after(out, ",\"file\":", &self.file)?;
-        put_after(out, ",\"grants\":", &self.grants)?;
-        put_after(out, ",\"kind\":", &self.kind)?;
-        put_after(out, ",\"version\":", &self.version)?;
+        self.content.put_after(out, "{\"content\":")?;
+        self.file.put_after(out, ",\"file\":")?;
+        self.grants.put_after(out, ",\"grants\":")?;
+        self.kind.put_after(out, ",\"kind\":")?;
+        self.version.put_after(out, ",\"version\":")?;
         out.push("}")
     }
 }
@@ -66,10 +67,10 @@ impl ToJson for Vote {
     ghost sound = { IsVote };
 
     fn put<O: Out>(&self, out: &mut O) -> Result<(), O::Fault> {
-        put_after(out, "{\"held\":", &self.held)?;
-        put_after(out, ",\"number\":", &self.number)?;
-        put_after(out, ",\"server\":", &self.server)?;
-        put_after(out, ",\"writes\":", &self.writes)?;
+        self.held.put_after(out, "{\"held\":")?;
+        self.number.put_after(out, ",\"number\":")?;
+        self.server.put_after(out, ",\"server\":")?;
+        self.writes.put_after(out, ",\"writes\":")?;
         out.push("}")
     }
 }
@@ -86,13 +87,13 @@ impl ToJson for DeskAsk {
         match self {
             DeskAsk::Begin => out.push("{\"is\":\"begin\"}"),
             DeskAsk::Commit { txn, ops, votes } => {
-                put_after(out, "{\"is\":\"commit\",\"ops\":", ops)?;
-                put_after(out, ",\"txn\":", txn)?;
-                put_after(out, ",\"votes\":", votes)?;
+                ops.put_after(out, "{\"is\":\"commit\",\"ops\":")?;
+                txn.put_after(out, ",\"txn\":")?;
+                votes.put_after(out, ",\"votes\":")?;
                 out.push("}")
             }
             DeskAsk::Resolve { txn } => {
-                put_after(out, "{\"is\":\"resolve\",\"txn\":", txn)?;
+                txn.put_after(out, "{\"is\":\"resolve\",\"txn\":")?;
                 out.push("}")
             }
         }
@@ -108,7 +109,7 @@ impl ToJson for Rule {
     ghost sound = { IsAny };
 
     fn put<O: Out>(&self, out: &mut O) -> Result<(), O::Fault> {
-        out.push_number(self.number())
+        out.push_number("", self.number())
     }
 }
 
@@ -124,14 +125,14 @@ impl ToJson for DeskRefusal {
         match self {
             DeskRefusal::NoSuchTxn => put_code(out, codes::NO_SUCH_TXN),
             DeskRefusal::Decided(verdict) => {
-                put_after(out, "{\"code\":", &codes::DECIDED)?;
-                put_after(out, ",\"is\":\"refused\",\"verdict\":", verdict)?;
+                codes::DECIDED.put_after(out, "{\"code\":")?;
+                verdict.put_after(out, ",\"is\":\"refused\",\"verdict\":")?;
                 out.push("}")
             }
             DeskRefusal::TooManyOps => put_code(out, codes::TOO_MANY_OPS),
             DeskRefusal::BadEvidence { rule } => {
-                put_after(out, "{\"code\":", &codes::BAD_EVIDENCE)?;
-                put_after(out, ",\"is\":\"refused\",\"rule\":", rule)?;
+                codes::BAD_EVIDENCE.put_after(out, "{\"code\":")?;
+                rule.put_after(out, ",\"is\":\"refused\",\"rule\":")?;
                 out.push("}")
             }
             DeskRefusal::TooManyFiles => put_code(out, codes::TOO_MANY_FILES),
@@ -150,15 +151,15 @@ impl ToJson for DeskReply {
     fn put<O: Out>(&self, out: &mut O) -> Result<(), O::Fault> {
         match self {
             DeskReply::Txn(txn) => {
-                put_after(out, "{\"is\":\"txn\",\"txn\":", txn)?;
+                txn.put_after(out, "{\"is\":\"txn\",\"txn\":")?;
                 out.push("}")
             }
             DeskReply::Verdict(verdict) => {
-                put_after(out, "{\"is\":\"verdict\",\"verdict\":", verdict)?;
+                verdict.put_after(out, "{\"is\":\"verdict\",\"verdict\":")?;
                 out.push("}")
             }
             DeskReply::Committed { serial } => {
-                put_after(out, "{\"is\":\"committed\",\"serial\":", serial)?;
+                serial.put_after(out, "{\"is\":\"committed\",\"serial\":")?;
                 out.push("}")
             }
             DeskReply::Refused(refusal) => refusal.put(out),

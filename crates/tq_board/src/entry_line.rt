@@ -6,9 +6,8 @@ ghost use Rattle.tq_shape.specs.Journal.{entry};
 ghost use Rattle.tq_board.specs.Values.{IsFitting, entry_value};
 ghost use Rattle.tq_board.specs.Lines.{IsLine, entry_line, answer_line, Adds};
 
-use crate::out::Out;
-use crate::text::Text;
-use crate::to_json::{ToJson, put_after};
+use crate::out::{Out, Text};
+use crate::to_json::ToJson;
 use std::alloc::Global;
 use tq_shape::Memory;
 
@@ -24,8 +23,8 @@ pub(crate) fn put_entry<A: ToJson, R: ToJson, O: Out>(
     ensures fits { OnOk result (IsFitting (entry_value A.value R.value (entry ask.now reply.now))) }
     ensures kept { OnOk result (A.sound ask.now × R.sound reply.now) }
 {
-    put_after(out, "{\"ask\":", ask)?;
-    put_after(out, ",\"reply\":", reply)?;
+    ask.put_after(out, "{\"ask\":")?;
+    reply.put_after(out, ",\"reply\":")?;
     out.push("}")
 }
 
@@ -56,8 +55,8 @@ pub fn answer_to_json<R: ToJson>(alloc: Global, number: u64, reply: &R) -> Resul
     ensures whole { IfOk result (λ line. IsLine (string_bytes line)) }
 {
     let mut out = Text::new(alloc);
-    put_after(&mut out, "{\"number\":", &number)?;
-    put_after(&mut out, ",\"reply\":", reply)?;
+    number.put_after(&mut out, "{\"number\":")?;
+    reply.put_after(&mut out, ",\"reply\":")?;
     out.push("}")?;
     out.push("\n")?;
     Ok(out.into_string())

@@ -7,11 +7,10 @@ ghost use Rattle.tq_board.specs.Values.{IsFitting};
 ghost use Rattle.tq_board.specs.Sound.{AreSound};
 ghost use Rattle.tq_board.specs.Lines.{IsSpilled, IsWrittenOut, spill, IsTextOf, Adds};
 
-use crate::out::Out;
+use crate::out::{Out, Text};
 use crate::room::Room;
 use crate::spilling::Spilling;
-use crate::text::Text;
-use crate::to_json::{ToJson, put_after, put_list};
+use crate::to_json::{ToJson, put_list};
 use std::alloc::Global;
 use tq_devices::{RunFault, Sink};
 use tq_json::Format;
@@ -27,9 +26,9 @@ impl ToJson for Limits {
     ghost sound = { HasLimits };
 
     fn put<O: Out>(&self, out: &mut O) -> Result<(), O::Fault> {
-        put_after(out, "{\"entries\":", &self.entries())?;
-        put_after(out, ",\"files\":", &self.files())?;
-        put_after(out, ",\"ops\":", &self.ops())?;
+        self.entries().put_after(out, "{\"entries\":")?;
+        self.files().put_after(out, ",\"files\":")?;
+        self.ops().put_after(out, ",\"ops\":")?;
         out.push("}")
     }
 }
@@ -42,9 +41,9 @@ fn put_journals<O: Out>(out: &mut O, journals: &Journals) -> Result<(), O::Fault
 {
     out.push("{\"desk\":")?;
     put_list(out, journals.desk())?;
-    put_after(out, ",\"format\":", &Format::Two.number())?;
-    put_after(out, ",\"levels\":", &journals.levels().count())?;
-    put_after(out, ",\"limits\":", &journals.limits())?;
+    Format::Two.number().put_after(out, ",\"format\":")?;
+    journals.levels().count().put_after(out, ",\"levels\":")?;
+    journals.limits().put_after(out, ",\"limits\":")?;
     out.push(",\"servers\":")?;
     put_list(out, journals.servers())?;
     out.push(",\"view\":")?;

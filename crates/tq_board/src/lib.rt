@@ -12,7 +12,6 @@ mod nodes;
 mod out;
 mod room;
 mod spilling;
-mod text;
 mod to_json;
 mod values;
 mod views;

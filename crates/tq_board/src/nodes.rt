@@ -9,7 +9,7 @@ ghost use Rattle.tq_board.specs.Lines.{Adds};
 
 use crate::codes;
 use crate::out::Out;
-use crate::to_json::{ToJson, put_after, put_code};
+use crate::to_json::{ToJson, put_code};
 use tq_asks::{CitedVote, HeldLock, NodeAsk, NodeRefusal, NodeReply, Verdict, WorkAsk};
 use tq_store::Write;
 
@@ -22,8 +22,8 @@ impl ToJson for CitedVote {
     ghost sound = { IsAny };
 
     fn put<O: Out>(&self, out: &mut O) -> Result<(), O::Fault> {
-        put_after(out, "{\"number\":", &self.number)?;
-        put_after(out, ",\"server\":", &self.server)?;
+        self.number.put_after(out, "{\"number\":")?;
+        self.server.put_after(out, ",\"server\":")?;
         out.push("}")
     }
 }
@@ -37,9 +37,9 @@ impl ToJson for Write {
     ghost sound = { IsWrite };
 
     fn put<O: Out>(&self, out: &mut O) -> Result<(), O::Fault> {
-        put_after(out, "{\"content\":", &self.content)?;
-        put_after(out, ",\"file\":", &self.file)?;
-        put_after(out, ",\"version\":", &self.version)?;
+        self.content.put_after(out, "{\"content\":")?;
+        self.file.put_after(out, ",\"file\":")?;
+        self.version.put_after(out, ",\"version\":")?;
         out.push("}")
     }
 }
@@ -53,9 +53,9 @@ impl ToJson for HeldLock {
     ghost sound = { IsHeldLock };
 
     fn put<O: Out>(&self, out: &mut O) -> Result<(), O::Fault> {
-        put_after(out, "{\"file\":", &self.file)?;
-        put_after(out, ",\"mode\":", &self.mode)?;
-        put_after(out, ",\"since\":", &self.since)?;
+        self.file.put_after(out, "{\"file\":")?;
+        self.mode.put_after(out, ",\"mode\":")?;
+        self.since.put_after(out, ",\"since\":")?;
         out.push("}")
     }
 }
@@ -72,7 +72,7 @@ impl ToJson for Verdict {
         match self {
             Verdict::Abort => out.push("{\"is\":\"abort\"}"),
             Verdict::Commit { votes } => {
-                put_after(out, "{\"is\":\"commit\",\"votes\":", votes)?;
+                votes.put_after(out, "{\"is\":\"commit\",\"votes\":")?;
                 out.push("}")
             }
         }
@@ -90,28 +90,28 @@ impl ToJson for WorkAsk {
     fn put<O: Out>(&self, out: &mut O) -> Result<(), O::Fault> {
         match self {
             WorkAsk::Lock { txn, file, mode } => {
-                put_after(out, "{\"file\":", file)?;
-                put_after(out, ",\"is\":\"lock\",\"mode\":", mode)?;
-                put_after(out, ",\"txn\":", txn)?;
+                file.put_after(out, "{\"file\":")?;
+                mode.put_after(out, ",\"is\":\"lock\",\"mode\":")?;
+                txn.put_after(out, ",\"txn\":")?;
                 out.push("}")
             }
             WorkAsk::Prepare { txn, writes } => {
-                put_after(out, "{\"is\":\"prepare\",\"txn\":", txn)?;
-                put_after(out, ",\"writes\":", writes)?;
+                txn.put_after(out, "{\"is\":\"prepare\",\"txn\":")?;
+                writes.put_after(out, ",\"writes\":")?;
                 out.push("}")
             }
             WorkAsk::Decide { txn, verdict, cite } => {
-                put_after(out, "{\"cite\":", cite)?;
-                put_after(out, ",\"is\":\"decide\",\"txn\":", txn)?;
-                put_after(out, ",\"verdict\":", verdict)?;
+                cite.put_after(out, "{\"cite\":")?;
+                txn.put_after(out, ",\"is\":\"decide\",\"txn\":")?;
+                verdict.put_after(out, ",\"verdict\":")?;
                 out.push("}")
             }
             WorkAsk::Release { txn } => {
-                put_after(out, "{\"is\":\"release\",\"txn\":", txn)?;
+                txn.put_after(out, "{\"is\":\"release\",\"txn\":")?;
                 out.push("}")
             }
             WorkAsk::Peek { file } => {
-                put_after(out, "{\"file\":", file)?;
+                file.put_after(out, "{\"file\":")?;
                 out.push(",\"is\":\"peek\"}")
             }
             WorkAsk::Refresh {
@@ -120,10 +120,10 @@ impl ToJson for WorkAsk {
                 content,
                 from,
             } => {
-                put_after(out, "{\"content\":", content)?;
-                put_after(out, ",\"file\":", file)?;
-                put_after(out, ",\"from\":", from)?;
-                put_after(out, ",\"is\":\"refresh\",\"version\":", version)?;
+                content.put_after(out, "{\"content\":")?;
+                file.put_after(out, ",\"file\":")?;
+                from.put_after(out, ",\"from\":")?;
+                version.put_after(out, ",\"is\":\"refresh\",\"version\":")?;
                 out.push("}")
             }
         }
@@ -155,8 +155,8 @@ fn put_stop<O: Out>(out: &mut O, ask: &WorkAsk, after: u32) -> Result<(), O::Fau
     ensures fits { OnOk result (IsFitting (node_ask_value (NodeAsk.CrashIn after ask.now))) }
     ensures kept { OnOk result (IsWork ask.now × (after ≤ 4294967295)) }
 {
-    put_after(out, "{\"after\":", &after)?;
-    put_after(out, ",\"ask\":", ask)?;
+    after.put_after(out, "{\"after\":")?;
+    ask.put_after(out, ",\"ask\":")?;
     out.push(",\"is\":\"crashin\"}")
 }
 
@@ -174,14 +174,14 @@ impl ToJson for NodeRefusal {
             NodeRefusal::AlreadyUp => put_code(out, codes::ALREADY_UP),
             NodeRefusal::AlreadyDown => put_code(out, codes::ALREADY_DOWN),
             NodeRefusal::Held { by } => {
-                put_after(out, "{\"by\":", by)?;
-                put_after(out, ",\"code\":", &codes::HELD)?;
+                by.put_after(out, "{\"by\":")?;
+                codes::HELD.put_after(out, ",\"code\":")?;
                 out.push(",\"is\":\"refused\"}")
             }
             NodeRefusal::Prepared => put_code(out, codes::PREPARED),
             NodeRefusal::NotLocked { file } => {
-                put_after(out, "{\"code\":", &codes::NOT_LOCKED)?;
-                put_after(out, ",\"file\":", file)?;
+                codes::NOT_LOCKED.put_after(out, "{\"code\":")?;
+                file.put_after(out, ",\"file\":")?;
                 out.push(",\"is\":\"refused\"}")
             }
             NodeRefusal::BadWrites => put_code(out, codes::BAD_WRITES),
@@ -202,21 +202,21 @@ impl ToJson for NodeReply {
     fn put<O: Out>(&self, out: &mut O) -> Result<(), O::Fault> {
         match self {
             NodeReply::Granted { version, content } => {
-                put_after(out, "{\"content\":", content)?;
-                put_after(out, ",\"is\":\"granted\",\"version\":", version)?;
+                content.put_after(out, "{\"content\":")?;
+                version.put_after(out, ",\"is\":\"granted\",\"version\":")?;
                 out.push("}")
             }
             NodeReply::Yes { held, writes } => {
-                put_after(out, "{\"held\":", held)?;
-                put_after(out, ",\"is\":\"yes\",\"writes\":", writes)?;
+                held.put_after(out, "{\"held\":")?;
+                writes.put_after(out, ",\"is\":\"yes\",\"writes\":")?;
                 out.push("}")
             }
             NodeReply::Installed => out.push("{\"is\":\"installed\"}"),
             NodeReply::Discarded => out.push("{\"is\":\"discarded\"}"),
             NodeReply::Released => out.push("{\"is\":\"released\"}"),
             NodeReply::Copy { version, content } => {
-                put_after(out, "{\"content\":", content)?;
-                put_after(out, ",\"is\":\"copy\",\"version\":", version)?;
+                content.put_after(out, "{\"content\":")?;
+                version.put_after(out, ",\"is\":\"copy\",\"version\":")?;
                 out.push("}")
             }
             NodeReply::Refreshed => out.push("{\"is\":\"refreshed\"}"),

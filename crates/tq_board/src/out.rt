@@ -1,19 +1,18 @@
-//! What text is put into.
-ghost use Rattle.std.specs.Prelude.{OnOk};
-ghost use Rattle.json.specs.Print.{quoted};
-ghost use Rattle.hex.specs.Hex.{encode_lower, IsBytes};
-ghost use Rattle.tq_board.specs.Sound.{IsFile};
-ghost use Rattle.tq_board.specs.Lines.{Adds};
+//! What text is put into, and text in the making.
+ghost use Rattle.std.specs.Prelude.{◌≡◌, []};
+ghost use Rattle.std.specs.String.{string_bytes};
 
-use tq_store::FileName;
+use std::alloc::Global;
+use std::marker::Model;
+use tq_shape::Memory;
 
 /// What text is put into, a piece behind another.
 pub trait Out {
-    ghost use Rattle.std.specs.Prelude.{List, ℕ};
+    ghost use Rattle.std.specs.Prelude.{List, ℕ, ◌≤◌, ◌++◌, length};
     ghost use Rattle.std.specs.Fmt.{decimal};
     ghost use Rattle.std.specs.Str.{IsAscii};
     ghost use Rattle.hex.specs.Hex.{encode_lower};
-    ghost use Rattle.tq_board.specs.Lines.{Adds};
+    ghost use Rattle.tq_board.specs.Lines.{Adds, in_quotes};
 
     /// Why a piece may not be put.
     type Fault: Drop;
@@ -25,38 +24,91 @@ pub trait Out {
     fn push(&mut self, piece: &str) -> Result<(), Self::Fault>
         ensures { Adds puts result self.old self.new piece.now };
 
-    /// Puts bytes that are ASCII.
-    fn push_ascii(&mut self, bytes: &[u8]) -> Result<(), Self::Fault>
-        requires { IsAscii bytes.now }
-        ensures { Adds puts result self.old self.new bytes.now };
+    /// Puts a piece, and the number in decimal.
+    fn push_number(&mut self, piece: &str, number: u64) -> Result<(), Self::Fault>
+        ensures { Adds puts result self.old self.new (piece.now ++ decimal number) };
 
-    /// Puts the number in decimal.
-    fn push_number(&mut self, number: u64) -> Result<(), Self::Fault>
-        ensures { Adds puts result self.old self.new (decimal number) };
+    /// Puts a piece, and bytes that are ASCII, between quotes.
+    fn push_ascii(&mut self, piece: &str, bytes: &[u8]) -> Result<(), Self::Fault>
+        requires ascii { IsAscii bytes.now }
+        requires few { length bytes.now ≤ 32 }
+        ensures { Adds puts result self.old self.new (piece.now ++ in_quotes bytes.now) };
 
-    /// Puts the bytes in hexadecimal.
-    fn push_digits(&mut self, bytes: &[u8]) -> Result<(), Self::Fault>
-        ensures { Adds puts result self.old self.new (encode_lower bytes.now) };
+    /// Puts a piece, and the bytes in hexadecimal, between quotes.
+    fn push_digits(&mut self, piece: &str, bytes: &[u8]) -> Result<(), Self::Fault>
+        requires { length bytes.now ≤ 4000 }
+        ensures { Adds puts result self.old self.new
+            (piece.now ++ in_quotes (encode_lower bytes.now)) };
 }
 
-/// Puts the name of a file, quoted.
-pub(crate) fn put_name<O: Out>(out: &mut O, name: &FileName) -> Result<(), O::Fault>
-    ensures adds { Adds O.puts result out.old out.new (quoted name.now) }
-    ensures kept { OnOk result (IsFile name.now) }
-{
-    out.push("\"")?;
-    out.push_ascii(name.as_bytes())?;
-    out.push("\"")?;
-    Ok(())
+/// Text in the making. Its bytes are UTF-8 all along, so that at the end it is a `String` without a look at them.
+#[derive(Drop)]
+pub(crate) struct Text {
+    bytes: Vec<u8>,
 }
 
-/// Puts a content in hexadecimal, quoted.
-pub(crate) fn put_content<O: Out>(out: &mut O, content: &[u8]) -> Result<(), O::Fault>
-    ensures adds { Adds O.puts result out.old out.new (quoted (encode_lower content.now)) }
-    ensures kept { OnOk result (IsBytes content.now) }
-{
-    out.push("\"")?;
-    out.push_digits(content)?;
-    out.push("\"")?;
-    Ok(())
+impl Model for Text {
+    ghost use Rattle.std.specs.Prelude.{List, ℕ};
+    ghost use Rattle.std.specs.Str.{IsUtf8};
+    ghost use Rattle.std.specs.Coded.{coded_list, coded_ℕ};
+
+    ghost Value = { List ℕ };
+
+    ghost coded = { coded_list coded_ℕ };
+
+    ghost view = { λ text. text.bytes.items };
+
+    ghost invariant = { λ text. IsUtf8 text.bytes.items };
+}
+
+impl Text {
+    /// No text yet. It takes no memory.
+    pub(crate) fn new(alloc: Global) -> Text
+        ensures { result ≡ [] }
+    {
+        Text {
+            bytes: Vec::new(alloc),
+        }
+    }
+
+    /// The text as it stands.
+    pub(crate) fn into_string(self) -> String
+        ensures { string_bytes result ≡ self }
+    {
+        unsafe { String::from_utf8_unchecked(self.bytes) }
+    }
+}
+
+impl Out for Text {
+    ghost use Rattle.std.specs.Prelude.{◌≡◌, ◌++◌};
+
+    type Fault = Memory;
+
+    ghost puts = { λ start text put. text ≡ start ++ put };
+
+    #[inline(always)]
+    fn push(&mut self, piece: &str) -> Result<(), Memory> {
+        self.bytes.extend_from_slice(piece.as_bytes())?;
+        Ok(())
+    }
+
+    fn push_number(&mut self, piece: &str, number: u64) -> Result<(), Memory> {
+        self.push(piece)?;
+        tq_shape::push_number(&mut self.bytes, number)?;
+        Ok(())
+    }
+
+    fn push_ascii(&mut self, piece: &str, bytes: &[u8]) -> Result<(), Memory> {
+        self.push(piece)?;
+        self.push("\"")?;
+        self.bytes.extend_from_slice(bytes)?;
+        self.push("\"")
+    }
+
+    fn push_digits(&mut self, piece: &str, bytes: &[u8]) -> Result<(), Memory> {
+        self.push(piece)?;
+        self.push("\"")?;
+        tq_shape::push_bytes(&mut self.bytes, bytes)?;
+        self.push("\"")
+    }
 }

@@ -1,8 +1,10 @@
 //! The room in which text waits to be written.
-ghost use Rattle.std.specs.Prelude.{◌≡◌, ◌+◌, ◌*◌, ◌<◌, ◌≤◌, ◌/◌, ◌%◌, [], ◌++◌, ◌∷◌, IfOk, length, take, drop};
+ghost use Rattle.std.specs.Prelude.{◌≡◌, ◌+◌, ◌*◌, ◌≤◌, [], ◌++◌, IfOk, length, drop};
 ghost use Rattle.std.specs.Fmt.{decimal};
 ghost use Rattle.hex.specs.Hex.{encode_lower};
+ghost use Rattle.tq_board.specs.Lines.{in_quotes};
 
+use itoa::write_digits;
 use std::alloc::{AllocError, Global};
 use std::marker::Model;
 use tq_shape::spell;
@@ -82,11 +84,34 @@ impl Room {
         self.used += write_number(&mut self.places[self.used..], number);
     }
 
-    /// Puts the bytes in hexadecimal, where there is a place for two digits of each.
+    /// Puts the bytes between quotes, where there is a place for them and the quotes.
+    #[inline(always)]
+    pub(crate) fn put_quoted(&mut self, bytes: &[u8])
+        requires { length self.old + length bytes.now + 2 ≤ 65536 }
+        ensures { self.new ≡ self.old ++ in_quotes bytes.now }
+    {
+        self.put(b"\"");
+        self.put(bytes);
+        self.put(b"\"");
+    }
+
+    /// Puts the bytes in hexadecimal between quotes, where there is a place for two digits of each and the quotes.
     #[inline(always)]
     pub(crate) fn put_digits(&mut self, bytes: &[u8])
+        requires { length self.old + 2 * length bytes.now + 2 ≤ 65536 }
+        ensures { self.new ≡ self.old ++ in_quotes (encode_lower bytes.now) }
+    {
+        self.put(b"\"");
+        self.put_spelled(bytes);
+        self.put(b"\"");
+    }
+
+    /// Puts the bytes in hexadecimal, where there is a place for two digits of each.
+    #[inline(always)]
+    fn put_spelled(&mut self, bytes: &[u8])
         requires { length self.old + 2 * length bytes.now ≤ 65536 }
-        ensures { self.new ≡ self.old ++ encode_lower bytes.now }
+        ensures bytes { self.new ≡ self.old ++ encode_lower bytes.now }
+        ensures len { length self.new ≡ length self.old + 2 * length bytes.now }
     {
         let end = self.used + 2 * bytes.len();
         spell(bytes, &mut self.places[self.used..end]);
@@ -94,33 +119,32 @@ impl Room {
     }
 }
 
-/// Writes the number in decimal at the front of the places, two digits a step, and says how many digits it has.
+/// Writes the number in decimal at the front of the places, and says how many digits it has.
 fn write_number(places: &mut [u8], number: u64) -> usize
     requires { length (decimal number) ≤ length places.old }
     ensures len { result ≡ length (decimal number) }
     ensures digits { places.new ≡ decimal number ++ drop result places.old }
 {
+    let count = digits_of(number);
+    let _start = write_digits(number, places, count);
+    count
+}
+
+/// How many digits the number has in decimal.
+fn digits_of(number: u64) -> usize
+    ensures { result ≡ length (decimal number) }
+{
     if number < 10 {
-        places[0] = b'0' + number as u8;
         return 1;
     }
     if number < 100 {
-        write_pair(places, 0, number);
         return 2;
     }
-    let at = write_number(places, number / 100);
-    write_pair(places, at, number % 100);
-    at + 2
-}
-
-/// Writes the two digits of the number at the place.
-#[inline(always)]
-fn write_pair(places: &mut [u8], at: usize, number: u64)
-    requires few { number < 100 }
-    requires place { at + 2 ≤ length places.old }
-    ensures { places.new
-        ≡ take at places.old ++ (48 + number / 10) ∷ (48 + number % 10) ∷ drop (at + 2) places.old }
-{
-    places[at] = b'0' + (number / 10) as u8;
-    places[at + 1] = b'0' + (number % 10) as u8;
+    if number < 1_000 {
+        return 3;
+    }
+    if number < 10_000 {
+        return 4;
+    }
+    4 + digits_of(number / 10_000)
 }

@@ -1,20 +1,16 @@
 //! Text that is written as it comes.
-ghost use Rattle.std.specs.Prelude.{◌≡◌, ◌-◌, ◌*◌, ◌^◌, ◌<◌, ◌≤◌, [], length};
+ghost use Rattle.std.specs.Prelude.{◌≡◌, ◌+◌, ◌-◌, ◌^◌, ◌<◌, ◌≤◌, [], ◌++◌, length};
 ghost use Rattle.std.specs.Fmt.{decimal};
 ghost use Rattle.hex.specs.Hex.{encode_lower};
-ghost use Rattle.tq_board.specs.Lines.{Ends, IsSpilled, Settles, Spills, spill};
+ghost use Rattle.tq_board.specs.Lines.{Ends, IsSpilled, Settles, Spills, in_quotes, spill};
 
 use crate::out::Out;
 use crate::room::Room;
 use std::convert::Infallible;
 use tq_devices::{RunFault, Sink, write_out};
-use tq_shape::spell;
 
 /// The most digits of a number.
 const MOST_DIGITS: usize = 20;
-
-/// So many bytes are spelled at a time, where the room has no place for the digits of all.
-const PART: usize = 32;
 
 /// Text that is written as it comes: it is gathered in a room, and goes to the sink when the room has no place
 /// for the next piece. Once the sink has failed nothing more is written. A piece longer than the room is written at once.
@@ -121,55 +117,69 @@ impl<'a, W: Sink> Spilling<'a, W> {
         self.has_failed = pass_on(self.sink, self.has_failed, bytes);
     }
 
-    /// Puts the number in decimal into the room once it is written out.
+    /// Writes out what the room keeps, where it has no place for so many bytes behind it.
+    fn leave(&mut self, wanted: usize)
+        requires { wanted ≤ 65536 }
+        ensures same_sink { self.new.sink.ghost_name ≡ self.old.sink.ghost_name }
+        ensures same_room { self.new.room.ghost_name ≡ self.old.room.ghost_name }
+        ensures place { length self.new.room.now + wanted ≤ 65536 }
+        ensures settles { Settles
+            (spill W.taken W.failed self.old.sink.now self.old.has_failed self.old.room.now)
+            (spill W.taken W.failed self.new.sink.now self.new.has_failed self.new.room.now) }
+    {
+        if wanted > self.room.spare() {
+            self.flush();
+        }
+    }
+
+    /// Puts the piece into the room once that is written out, and the number in decimal.
     #[cold]
     #[inline(never)]
-    fn put_number_anew(&mut self, number: u64)
+    fn put_number_anew(&mut self, piece: &[u8], number: u64)
         ensures same_sink { self.new.sink.ghost_name ≡ self.old.sink.ghost_name }
         ensures same_room { self.new.room.ghost_name ≡ self.old.room.ghost_name }
         ensures spills { Spills
             (spill W.taken W.failed self.old.sink.now self.old.has_failed self.old.room.now)
             (spill W.taken W.failed self.new.sink.now self.new.has_failed self.new.room.now)
-            (decimal number) }
+            (piece.now ++ decimal number) }
     {
-        self.flush();
+        self.put_anew(piece);
+        self.leave(MOST_DIGITS);
         self.room.put_number(number);
     }
 
-    /// Puts the bytes in hexadecimal, a part behind another: as much of them as there is place for before the room is written out.
+    /// Puts the piece into the room once that is written out, and the bytes between quotes.
     #[cold]
     #[inline(never)]
-    fn put_parts(&mut self, bytes: &[u8])
+    fn put_quoted_anew(&mut self, piece: &[u8], bytes: &[u8])
+        requires { length bytes.now ≤ 32 }
         ensures same_sink { self.new.sink.ghost_name ≡ self.old.sink.ghost_name }
         ensures same_room { self.new.room.ghost_name ≡ self.old.room.ghost_name }
         ensures spills { Spills
             (spill W.taken W.failed self.old.sink.now self.old.has_failed self.old.room.now)
             (spill W.taken W.failed self.new.sink.now self.new.has_failed self.new.room.now)
-            (encode_lower bytes.now) }
+            (piece.now ++ in_quotes bytes.now) }
     {
-        let mut rest = bytes;
-        while rest.len() > PART {
-            let (part, more) = rest.split_at(PART);
-            self.put_part(part);
-            rest = more;
-        }
-        self.put_part(rest);
+        self.put_anew(piece);
+        self.leave(bytes.len() + 2);
+        self.room.put_quoted(bytes);
     }
 
-    /// Puts the digits of no more than `PART` bytes.
-    fn put_part(&mut self, part: &[u8])
-        requires { length part.now ≤ 32 }
+    /// Puts the piece into the room once that is written out, and the bytes in hexadecimal between quotes.
+    #[cold]
+    #[inline(never)]
+    fn put_digits_anew(&mut self, piece: &[u8], bytes: &[u8])
+        requires { length bytes.now ≤ 4000 }
         ensures same_sink { self.new.sink.ghost_name ≡ self.old.sink.ghost_name }
         ensures same_room { self.new.room.ghost_name ≡ self.old.room.ghost_name }
         ensures spills { Spills
             (spill W.taken W.failed self.old.sink.now self.old.has_failed self.old.room.now)
             (spill W.taken W.failed self.new.sink.now self.new.has_failed self.new.room.now)
-            (encode_lower part.now) }
+            (piece.now ++ in_quotes (encode_lower bytes.now)) }
     {
-        let mut room = [0; 2 * PART];
-        let digits = &mut room[..2 * part.len()];
-        spell(part, digits);
-        self.put(digits);
+        self.put_anew(piece);
+        self.leave(2 * bytes.len() + 2);
+        self.room.put_digits(bytes);
     }
 }
 
@@ -201,27 +211,36 @@ impl<'a, W: Sink> Out for Spilling<'a, W> {
         Ok(())
     }
 
-    fn push_ascii(&mut self, bytes: &[u8]) -> Result<(), Infallible> {
-        self.put(bytes);
+    #[inline(always)]
+    fn push_number(&mut self, piece: &str, number: u64) -> Result<(), Infallible> {
+        if piece.len() + MOST_DIGITS > self.room.spare() {
+            self.put_number_anew(piece.as_bytes(), number);
+            return Ok(());
+        }
+        self.room.put(piece.as_bytes());
+        self.room.put_number(number);
         Ok(())
     }
 
     #[inline(always)]
-    fn push_number(&mut self, number: u64) -> Result<(), Infallible> {
-        if MOST_DIGITS <= self.room.spare() {
-            self.room.put_number(number);
+    fn push_ascii(&mut self, piece: &str, bytes: &[u8]) -> Result<(), Infallible> {
+        if piece.len() + bytes.len() + 2 > self.room.spare() {
+            self.put_quoted_anew(piece.as_bytes(), bytes);
             return Ok(());
         }
-        self.put_number_anew(number);
+        self.room.put(piece.as_bytes());
+        self.room.put_quoted(bytes);
         Ok(())
     }
 
-    fn push_digits(&mut self, bytes: &[u8]) -> Result<(), Infallible> {
-        if bytes.len() <= self.room.spare() / 2 {
-            self.room.put_digits(bytes);
+    #[inline(always)]
+    fn push_digits(&mut self, piece: &str, bytes: &[u8]) -> Result<(), Infallible> {
+        if piece.len() + 2 * bytes.len() + 2 > self.room.spare() {
+            self.put_digits_anew(piece.as_bytes(), bytes);
             return Ok(());
         }
-        self.put_parts(bytes);
+        self.room.put(piece.as_bytes());
+        self.room.put_digits(bytes);
         Ok(())
     }
 }

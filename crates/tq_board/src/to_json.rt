@@ -1,5 +1,5 @@
 //! What the form has a value for, and the lists of such values.
-ghost use Rattle.std.specs.Prelude.{◌++◌, OnOk};
+ghost use Rattle.std.specs.Prelude.{OnOk};
 ghost use Rattle.std.specs.List.{AllByRecursion};
 ghost use Rattle.serde_json.specs.Written.{comma_if, compact_text};
 ghost use Rattle.tq_board.specs.Values.{code_value, list_value, IsFitting};
@@ -7,29 +7,12 @@ ghost use Rattle.tq_board.specs.Lines.{Adds};
 
 use crate::out::Out;
 
-/// A piece of text that stands ready, with a value behind it.
-#[inline(always)]
-pub(crate) fn put_after<T: ToJson, O: Out>(
-    out: &mut O,
-    piece: &str,
-    value: &T,
-) -> Result<(), O::Fault>
-    ensures adds { Adds O.puts result out.old out.new
-        (piece.now ++ compact_text (T.value value.now)) }
-    ensures fits { OnOk result (IsFitting (T.value value.now)) }
-    ensures kept { OnOk result (T.sound value.now) }
-{
-    out.push(piece)?;
-    value.put(out)?;
-    Ok(())
-}
-
 /// A refusal that tells no more than its code.
 pub(crate) fn put_code<O: Out>(out: &mut O, code: u64) -> Result<(), O::Fault>
     ensures adds { Adds O.puts result out.old out.new (compact_text (code_value code)) }
     ensures fits { OnOk result (IsFitting (code_value code)) }
 {
-    put_after(out, "{\"code\":", &code)?;
+    code.put_after(out, "{\"code\":")?;
     out.push(",\"is\":\"refused\"}")
 }
 
@@ -64,7 +47,7 @@ fn put_comma<O: Out>(out: &mut O, later: bool) -> Result<(), O::Fault>
 
 /// What the form has a value for, so that it can be written.
 pub trait ToJson {
-    ghost use Rattle.std.specs.Prelude.{OnOk};
+    ghost use Rattle.std.specs.Prelude.{◌++◌, OnOk};
     ghost use Rattle.serde_json.specs.Data.{Data};
     ghost use Rattle.serde_json.specs.Written.{compact_text};
     ghost use Rattle.tq_board.specs.Values.{IsFitting};
@@ -81,4 +64,16 @@ pub trait ToJson {
         ensures adds { Adds O.puts result out.old out.new (compact_text (value self.now)) }
         ensures fits { OnOk result (IsFitting (value self.now)) }
         ensures kept { OnOk result (sound self.now) };
+
+    /// Writes a piece that stands ready, and the value behind it.
+    fn put_after<O: Out>(&self, out: &mut O, piece: &str) -> Result<(), O::Fault>
+        ensures adds { Adds O.puts result out.old out.new
+            (piece.now ++ compact_text (value self.now)) }
+        ensures fits { OnOk result (IsFitting (value self.now)) }
+        ensures kept { OnOk result (sound self.now) }
+    {
+        out.push(piece)?;
+        self.put(out)?;
+        Ok(())
+    }
 }

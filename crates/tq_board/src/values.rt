@@ -1,6 +1,6 @@
 //! Numbers, flags, texts, lists and entries.
 use crate::entry_line::put_entry;
-use crate::out::{Out, put_content, put_name};
+use crate::out::Out;
 use crate::to_json::{ToJson, put_list};
 use tq_evidence::Shareable;
 use tq_live::Purpose;
@@ -17,7 +17,11 @@ impl ToJson for u64 {
     ghost sound = { IsAny };
 
     fn put<O: Out>(&self, out: &mut O) -> Result<(), O::Fault> {
-        out.push_number(*self)
+        self.put_after(out, "")
+    }
+
+    fn put_after<O: Out>(&self, out: &mut O, piece: &str) -> Result<(), O::Fault> {
+        out.push_number(piece, *self)
     }
 }
 
@@ -30,7 +34,11 @@ impl ToJson for u32 {
     ghost sound = { IsAny };
 
     fn put<O: Out>(&self, out: &mut O) -> Result<(), O::Fault> {
-        out.push_number(u64::from(*self))
+        self.put_after(out, "")
+    }
+
+    fn put_after<O: Out>(&self, out: &mut O, piece: &str) -> Result<(), O::Fault> {
+        out.push_number(piece, u64::from(*self))
     }
 }
 
@@ -59,7 +67,11 @@ impl ToJson for ServerId {
     ghost sound = { IsAny };
 
     fn put<O: Out>(&self, out: &mut O) -> Result<(), O::Fault> {
-        out.push_number(self.number())
+        self.put_after(out, "")
+    }
+
+    fn put_after<O: Out>(&self, out: &mut O, piece: &str) -> Result<(), O::Fault> {
+        out.push_number(piece, self.number())
     }
 }
 
@@ -72,7 +84,12 @@ impl ToJson for FileName {
     ghost sound = { IsFile };
 
     fn put<O: Out>(&self, out: &mut O) -> Result<(), O::Fault> {
-        put_name(out, self)
+        self.put_after(out, "")
+    }
+
+    fn put_after<O: Out>(&self, out: &mut O, piece: &str) -> Result<(), O::Fault> {
+        let bytes = self.as_bytes();
+        out.push_ascii(piece, bytes)
     }
 }
 
@@ -84,6 +101,7 @@ impl ToJson for Mode {
 
     ghost sound = { IsAny };
 
+    #[tactic(auto, unfolding(json::specs::Print::escape_byte))]
     fn put<O: Out>(&self, out: &mut O) -> Result<(), O::Fault> {
         match self {
             Mode::Shared => out.push("\"shared\""),
@@ -93,13 +111,14 @@ impl ToJson for Mode {
 }
 
 impl ToJson for Purpose {
-    ghost use Rattle.tq_board.specs.Views.{purpose_value};
+    ghost use Rattle.tq_board.specs.Form.{purpose_value};
     ghost use Rattle.tq_board.specs.Sound.{IsAny};
 
     ghost value = { purpose_value };
 
     ghost sound = { IsAny };
 
+    #[tactic(auto, unfolding(json::specs::Print::escape_byte))]
     fn put<O: Out>(&self, out: &mut O) -> Result<(), O::Fault> {
         match self {
             Purpose::Read => out.push("\"read\""),
@@ -117,7 +136,12 @@ impl ToJson for Content {
     ghost sound = { IsContent };
 
     fn put<O: Out>(&self, out: &mut O) -> Result<(), O::Fault> {
-        put_content(out, self.as_bytes())
+        self.put_after(out, "")
+    }
+
+    fn put_after<O: Out>(&self, out: &mut O, piece: &str) -> Result<(), O::Fault> {
+        let bytes = self.as_bytes();
+        out.push_digits(piece, bytes)
     }
 }
 

@@ -7,7 +7,7 @@ ghost use Rattle.tq_board.specs.Lines.{Adds};
 
 use crate::codes;
 use crate::out::Out;
-use crate::to_json::{ToJson, put_after, put_code, put_list};
+use crate::to_json::{ToJson, put_code, put_list};
 use tq_coterie::Member;
 use tq_live::{ViewAsk, ViewRefusal, ViewReply};
 use tq_shape::ServerId;
@@ -23,7 +23,7 @@ fn put_servers<O: Out>(out: &mut O, servers: &[ServerId]) -> Result<(), O::Fault
 }
 
 impl<Role> ToJson for Member<Role> {
-    ghost use Rattle.tq_board.specs.Views.{servers_value};
+    ghost use Rattle.tq_board.specs.Form.{servers_value};
     ghost use Rattle.tq_board.specs.Sound.{IsMember};
 
     ghost value = { servers_value };
@@ -37,7 +37,7 @@ impl<Role> ToJson for Member<Role> {
 }
 
 impl ToJson for ViewAsk {
-    ghost use Rattle.tq_board.specs.Views.{view_ask_value};
+    ghost use Rattle.tq_board.specs.Form.{view_ask_value};
     ghost use Rattle.tq_board.specs.Sound.{IsAny};
 
     ghost value = { view_ask_value };
@@ -51,18 +51,18 @@ impl ToJson for ViewAsk {
                 read,
                 write,
             } => {
-                put_after(out, "{\"is\":\"setcost\",\"read\":", &read)?;
-                put_after(out, ",\"server\":", &server)?;
-                put_after(out, ",\"write\":", &write)?;
+                read.put_after(out, "{\"is\":\"setcost\",\"read\":")?;
+                server.put_after(out, ",\"server\":")?;
+                write.put_after(out, ",\"write\":")?;
                 out.push("}")
             }
             ViewAsk::Mark { server, up } => {
-                put_after(out, "{\"is\":\"mark\",\"server\":", &server)?;
-                put_after(out, ",\"up\":", &up)?;
+                server.put_after(out, "{\"is\":\"mark\",\"server\":")?;
+                up.put_after(out, ",\"up\":")?;
                 out.push("}")
             }
             ViewAsk::Choose { purpose } => {
-                put_after(out, "{\"is\":\"choose\",\"purpose\":", &purpose)?;
+                purpose.put_after(out, "{\"is\":\"choose\",\"purpose\":")?;
                 out.push("}")
             }
         }
@@ -70,7 +70,7 @@ impl ToJson for ViewAsk {
 }
 
 impl ToJson for ViewRefusal {
-    ghost use Rattle.tq_board.specs.Views.{view_refusal_value};
+    ghost use Rattle.tq_board.specs.Form.{view_refusal_value};
     ghost use Rattle.tq_board.specs.Sound.{IsViewRefusal};
 
     ghost value = { view_refusal_value };
@@ -82,8 +82,8 @@ impl ToJson for ViewRefusal {
             ViewRefusal::NoSuchServer => put_code(out, codes::NO_SUCH_SERVER),
             ViewRefusal::BadCost => put_code(out, codes::BAD_COST),
             ViewRefusal::Blocked(blocker) => {
-                put_after(out, "{\"code\":", &codes::BLOCKED)?;
-                put_after(out, ",\"is\":\"refused\",\"servers\":", blocker)?;
+                codes::BLOCKED.put_after(out, "{\"code\":")?;
+                blocker.put_after(out, ",\"is\":\"refused\",\"servers\":")?;
                 out.push("}")
             }
         }
@@ -91,7 +91,7 @@ impl ToJson for ViewRefusal {
 }
 
 impl ToJson for ViewReply {
-    ghost use Rattle.tq_board.specs.Views.{view_reply_value};
+    ghost use Rattle.tq_board.specs.Form.{view_reply_value};
     ghost use Rattle.tq_board.specs.Sound.{IsViewReply};
 
     ghost value = { view_reply_value };
@@ -103,8 +103,8 @@ impl ToJson for ViewReply {
             ViewReply::CostSet => out.push("{\"is\":\"costset\"}"),
             ViewReply::Marked => out.push("{\"is\":\"marked\"}"),
             ViewReply::Chosen { quorum, cost } => {
-                put_after(out, "{\"cost\":", cost)?;
-                put_after(out, ",\"is\":\"chosen\",\"servers\":", quorum)?;
+                cost.put_after(out, "{\"cost\":")?;
+                quorum.put_after(out, ",\"is\":\"chosen\",\"servers\":")?;
                 out.push("}")
             }
             ViewReply::Refused(refusal) => refusal.put(out),

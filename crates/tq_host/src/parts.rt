@@ -120,7 +120,7 @@ impl Wire for Desk {
 
 impl Wire for View {
     ghost use Rattle.tq_json_read.specs.Views.{view_ask};
-    ghost use Rattle.tq_board.specs.Views.{view_ask_value, view_reply_value};
+    ghost use Rattle.tq_board.specs.Form.{view_ask_value, view_reply_value};
 
     ghost reads_ask = { IsAlone (view_ask Two) };
 

@@ -1,6 +1,6 @@
 use Rattle.std.proofs.lemmas.Str.{IsUtf8-append, IsUtf8-from_ascii}
-use Rattle.tq_board.proofs.Plain.{digits-ascii}
-use Rattle.tq_board.proofs.text.TextOut.push_digits.Goals as goal
+use Rattle.tq_board.proofs.ReadBack.{digits-ascii}
+use Rattle.tq_board.proofs.out.TextOut.push_digits.Goals as goal
 
 pub invariant_of-self : goal.invariant_of-self
 invariant_of-self c =

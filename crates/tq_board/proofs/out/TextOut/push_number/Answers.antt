@@ -1,6 +1,6 @@
 use Rattle.std.proofs.lemmas.Fmt.{IsAscii-decimal}
 use Rattle.std.proofs.lemmas.Str.{IsUtf8-append, IsUtf8-from_ascii}
-use Rattle.tq_board.proofs.text.TextOut.push_number.Goals as goal
+use Rattle.tq_board.proofs.out.TextOut.push_number.Goals as goal
 
 pub invariant_of-self-2 : goal.invariant_of-self-2
 invariant_of-self-2 c =
