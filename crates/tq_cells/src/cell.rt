@@ -1,6 +1,6 @@
 //! The lock of a part, what is asked under it, and what the part told of an ask, twice.
 
-ghost use Rattle.std.specs.Prelude.{◌≡◌, ◌+◌, ◌∷◌, ◌++◌, [], ◌≤◌, ◌<◌, List, drop, max, vec_len, IfOk, IfErr, OnErr};
+ghost use Rattle.std.specs.Prelude.{◌≡◌, ◌+◌, ◌∷◌, ◌++◌, [], ◌<◌, List, drop, max, vec_len, IfOk, IfErr, OnErr};
 ghost use Rattle.std.specs.Sync.Mutex.{mutex_guard_value};
 ghost use Rattle.tq_shape.specs.declared.part.Entry.{Entry};
 ghost use Rattle.tq_shape.specs.Journal.{IsLegalFrom};

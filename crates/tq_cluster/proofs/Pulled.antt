@@ -171,10 +171,3 @@ pub for_workers : (workers : ℕ) (board : JournalsView) (put : List Message) �
 for_workers workers board put some =
     let none : (workers == 0) ≡ false = grind (arith, nat_tests, some) in
     ap (λ (test : Bool). cond test put (with_jobs put (planned_on board))) none
-
--- its pull was Ok, and it planned
-pub pulled_all : (round : Round) (board : JournalsView) (caller : CallerView) → (round ≡ ends.Foreign → ⊥) → HasSeenAll board caller → HasPulled round board caller
-pulled_all ends.Put board caller other seen = seen
-pulled_all ends.Refused board caller other seen = seen
-pulled_all ends.Foreign board caller other seen = absurd (other refl)
-pulled_all ends.Memory board caller other seen = tt

@@ -76,6 +76,16 @@ impl<'a, R: Wait, G: Gate + Drop> Asker for Asking<'a, R, G> {
             .ask_node(self.rt, alloc, &mut self.caller, server, ask)
     }
 
+    /// Asks a server of the cluster, as `node` does: it looks up itself what is cited.
+    fn tell(
+        &mut self,
+        alloc: Global,
+        server: ServerId,
+        ask: NodeAsk,
+    ) -> Result<NodeTold, AskFault> {
+        self.node(alloc, server, ask)
+    }
+
     /// Asks the desk of the cluster, as [`Cluster::ask_desk`] does.
     fn desk(&mut self, alloc: Global, ask: DeskAsk) -> Result<DeskTold, AskFault> {
         self.cluster.ask_desk(self.rt, alloc, &mut self.caller, ask)

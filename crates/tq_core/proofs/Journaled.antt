@@ -1,7 +1,7 @@
 -- A step that is not refused: its part has room in its journal. A world of journals, each the oldest entry first, and
 -- the events that made it, the newest first.
-use Rattle.std.proofs.Common.{◌≡◌, ◌<◌, ◌-◌, ℕ, zero, suc, Bool, true, false, cond, List, [], ◌∷◌, length, Option, Some, None, refl, sym, ap, subst, ◌∙◌, nat_le, nat_lt, arith, ◌≢◌, ◌^◌, eqb, ◌++◌, set, replicate, reverse, inl, inr}
-use Rattle.std.specs.Prelude.{slice_get, if◌then◌else◌, not}
+use Rattle.std.proofs.Common.{◌≡◌, ◌<◌, ◌-◌, ℕ, zero, suc, Bool, true, false, cond, List, [], ◌∷◌, length, Option, Some, None, refl, sym, ap, subst, ◌∙◌, nat_le, nat_lt, arith, ◌≢◌, ◌^◌, eqb, ◌++◌, set, replicate, reverse}
+use Rattle.std.specs.Prelude.{slice_get, if◌then◌else◌}
 use Rattle.std.specs.Option.{unwrap_or, option_and_then}
 use Rattle.tq_shape.specs.declared.part.Part.{Part}
 use Rattle.tq_shape.specs.declared.part.Part.TheVariants as parts
@@ -12,12 +12,10 @@ use Rattle.tq_core.specs.declared.answer.Refusal.TheVariants as refusals
 use Rattle.tq_core.specs.declared.citation.Citation.{Citation}
 use Rattle.tq_core.specs.World.{item_at, server_entry, empty_world, node_at, desk_at}
 use Rattle.tq_core.specs.Steps.{refuse_unfounded, refuse_entry, refuse_at, server_journal, refusal, node_entry, desk_entry, world_with_step, world_after, run_from, run}
-use Rattle.std.specs.List.{find}
 use Rattle.std.proofs.lemmas.Bool.{eqb-true, eq-eqb, false≢true}
 use Rattle.tq_shape.specs.Limits.{LimitsView}
-use Rattle.tq_shape.specs.Journal.{Has, entry_at, entry, state_at}
+use Rattle.tq_shape.specs.Journal.{entry_at, entry, state_at}
 use Rattle.tq_shape.proofs.Joined.{reverse-push, at-reverse, state-reverse}
-use Rattle.tq_shape.proofs.Places.{none-Has}
 use Rattle.tq_asks.specs.declared.ask.CitedVote.{CitedVote}
 use Rattle.tq_asks.specs.declared.ask.NodeAsk.{NodeAsk}
 use Rattle.tq_asks.specs.declared.ask.NodeAsk.TheVariants as node_asks
@@ -28,16 +26,16 @@ use Rattle.tq_node.specs.Records.{NodeState, node_reply, node_after}
 use Rattle.tq_desk.specs.declared.ask.DeskAsk.{DeskAsk}
 use Rattle.tq_desk.specs.declared.ask.DeskAsk.TheVariants as desk_asks
 use Rattle.tq_evidence.specs.declared.grant.Grant.{Grant}
-use Rattle.tq_evidence.specs.declared.op.Op.{Op}
 use Rattle.tq_evidence.specs.declared.vote.Vote.{Vote}
 use Rattle.tq_desk.specs.DeskStep.{DeskView, desk_reply}
 use Rattle.tq_desk.specs.DeskJournal.{DeskBounds, desk_state, opened_desk, step_reply, step_after, VerdictAt, DeskEntry}
 use Rattle.tq_core.specs.declared.answer.Step.{Step}
 use Rattle.tq_core.specs.declared.answer.Step.TheVariants as steps
-use Rattle.tq_core.specs.Founded.{is_founded_grant, is_founded_vote, is_founded_copy, is_founded_verdict, is_granted, is_voted, is_peeked, is_ended, cited_grant, cited_vote, unless, unfounded_grant, unfounded_op, unfounded_vote, unfounded_in_desk_ask, unfounded_in_node_ask, unfounded_in_work}
-use Rattle.tq_core.proofs.Contents.{granted-is, voted-is, peeked-is, ended-is, tested-is}
+use Rattle.tq_core.specs.Founded.{is_founded_grant, is_founded_vote, is_founded_copy, is_founded_verdict, is_granted, is_voted, is_peeked, is_ended, unfounded_op, unfounded_vote, unfounded_in_desk_ask, unfounded_in_node_ask, unfounded_in_work}
+use Rattle.tq_core.proofs.Contents.{granted-is, voted-is, peeked-is, ended-is, tested-is, unless_none, ops-are, votes-are}
+use Rattle.tq_core.proofs.Runs.{world_grown}
 use Rattle.tq_core.proofs.Worlds.{Event, AtNode, AtDesk, node_journal, desk_journal, IsFoundedGrant, IsFoundedVote, IsFoundedSource, IsFoundedWork, IsFoundedAsk, IsRun}
-use Rattle.tq_shape.proofs.Options.{map-none, or_else-none}
+use Rattle.tq_shape.proofs.Options.{or_else-none}
 
 refuses_nothing : (test : Bool) (part : Part) (citation : Option Citation) → (if test then Some (refusals.JournalFull part) else refuse_unfounded citation) ≡ None → test ≡ false
 refuses_nothing true part citation none = cc
@@ -156,10 +154,6 @@ module _ (events : List Event) (world : JournalsView) (journaled : IsJournaled e
 
   -- ---- no citation is unfounded
 
-  unless_none : (founded : Bool) (citation : Citation) → unless founded citation ≡ None → founded ≡ true
-  unless_none true citation none = refl
-  unless_none false citation none = absurd (let some : Path (Option Citation) (Some citation) None = none in cc)
-
   work-is : (ask : WorkAsk) → unfounded_in_work world ask ≡ None → IsFoundedWork events (Some ask)
   work-is (work.Decide txn verdict cite) none = verdict-is txn verdict cite (unless_none (is_founded_verdict world txn verdict cite) _ none)
   work-is (work.Refresh file version content from) none = copy-is file version content from (unless_none (is_founded_copy world file version content from) _ none)
@@ -174,31 +168,12 @@ module _ (events : List Event) (world : JournalsView) (journaled : IsJournaled e
   node_ask-is node_asks.Return none = tt
   node_ask-is (node_asks.CrashIn after ask) none = work-is ask none
 
-  none_unfounded : {A : Type 0} (founded : A → Bool) (xs : List A) → find (λ x. not (founded x)) xs ≡ None → (x : A) → Has xs x → founded x ≡ true
-  none_unfounded founded xs none x has = by (founded x) (none-Has (λ y. not (founded y)) xs none x has)
-    where
-      by : (b : Bool) → (not b ≡ true → ⊥) → b ≡ true
-      by true never = refl
-      by false never = absurd (never refl)
-
-  ops-is : (txn : ℕ) (ops : List Op) → unfounded_op world txn ops ≡ None → (op : Op) → Has ops op → (grant : Grant) → Has op.grants grant → IsFoundedGrant events txn op.file grant
-  ops-is txn [] none op has grant has_grant = absurd has
-  ops-is txn (first ∷ ops) none op (inl same) grant has_grant =
-      let both = or_else-none (unfounded_grant world txn first.file first.grants) (unfounded_op world txn ops) none in
-      let clean = map-none cited_grant (find (λ (g : Grant). not (is_founded_grant world txn first.file g)) first.grants) both.0 in
-      let here : Has first.grants grant = subst (λ (o : Op). Has o.grants grant) (sym same) has_grant in
-      subst (λ (o : Op). IsFoundedGrant events txn o.file grant) same
-      (grant-is txn first.file grant (none_unfounded (is_founded_grant world txn first.file) first.grants clean grant here))
-  ops-is txn (first ∷ ops) none op (inr has) grant has_grant =
-      ops-is txn ops (or_else-none (unfounded_grant world txn first.file first.grants) (unfounded_op world txn ops) none).1 op has grant has_grant
-
   desk_ask-is : (ask : DeskAsk) → unfounded_in_desk_ask world ask ≡ None → IsFoundedAsk events ask
   desk_ask-is (desk_asks.Commit txn ops votes) none =
       let both = or_else-none (unfounded_op world txn ops) (unfounded_vote world txn votes) none in
-      let clean = map-none cited_vote (find (λ (v : Vote). not (is_founded_vote world txn v)) votes) both.1 in
       record {
-        grants = ops-is txn ops both.0;
-        each_vote = λ vote has. vote-is txn vote (none_unfounded (is_founded_vote world txn) votes clean vote has);
+        grants = λ op has grant has_grant. grant-is txn op.file grant (ops-are world txn ops both.0 op has grant has_grant);
+        each_vote = λ vote has. vote-is txn vote (votes-are world txn votes both.1 vote has);
       }
   desk_ask-is desk_asks.Begin none = tt
   desk_ask-is (desk_asks.Resolve txn) none = tt
@@ -247,6 +222,89 @@ item_set_other servers server other entries above apart = by (nat_lt 0 other) re
         let positive : 0 < other = grind (arith, t) in
         get_set_other servers (server - 1) (other - 1) entries (λ same. apart (omega arith))
     by false t = refl
+
+-- ---- the entries that stand
+
+pub item_below : {E : Type 0} (items : List E) (number : ℕ) (x : E) → 0 < number → slice_get items (number - 1) ≡ Some x → item_at items number ≡ Some x
+item_below {E} items number x above is =
+    let less : nat_lt 0 number ≡ true = grind (arith, above) in
+    ap (λ b. cond b (slice_get items (number - 1)) None) less ∙ is
+
+get_push : {E : Type 0} (items : List E) (place : ℕ) (e last : E) → slice_get items place ≡ Some e → slice_get (items ++ last ∷ []) place ≡ Some e
+get_push {E} [] place e last is = absurd (let none : Path (Option E) None (Some e) = is in cc)
+get_push (x ∷ items) zero e last is = is
+get_push (x ∷ items) (suc place) e last is = get_push items place e last is
+
+get_last : {E : Type 0} (items : List E) (last : E) → slice_get (items ++ last ∷ []) (length items) ≡ Some last
+get_last [] last = refl
+get_last (x ∷ items) last = get_last items last
+
+item_push : {E : Type 0} (items : List E) (number : ℕ) (e last : E) → item_at items number ≡ Some e → item_at (items ++ last ∷ []) number ≡ Some e
+item_push items number e last is =
+    let above = item_above items number e is in
+    item_below (items ++ last ∷ []) number e above.0 (get_push items (number - 1) e last above.1)
+
+item_last : {E : Type 0} (items : List E) (last : E) → item_at (items ++ last ∷ []) (suc (length items)) ≡ Some last
+item_last items last =
+    item_below (items ++ last ∷ []) (suc (length items)) last (omega arith) (ap (slice_get (items ++ last ∷ [])) (omega arith) ∙ get_last items last)
+
+-- a server's ask that is taken leaves each entry, and enters the reply
+module _ (world : JournalsView) (server : ℕ) (ask : NodeAsk) (none : refusal world (steps.Node server ask) ≡ None) where
+  abbrev entries_after : List NodeEntry
+  entries_after = server_journal world server ++ node_entry world server ask ∷ []
+
+  room : HasRoom world server
+  room = node_room world server (unfounded_in_node_ask world ask) none
+
+  -- the entry of a number, in a journal that was looked up
+  abbrev entry_in : ℕ → Option (List NodeEntry) → Option NodeEntry
+  entry_in number = option_and_then (λ entries. item_at entries number)
+
+  entered_at : (number : ℕ) → server_entry (world_with_step world (steps.Node server ask)) server number ≡ item_at entries_after number
+  entered_at number = ap (entry_in number) (item_set_same world.servers server entries_after room.above room.within)
+
+  entry_kept : (other number : ℕ) (e : NodeEntry) → server_entry world other number ≡ Some e → server_entry (world_with_step world (steps.Node server ask)) other number ≡ Some e
+  entry_kept other number e is = by (eqb server other) refl
+    where
+      by : (b : Bool) → eqb server other ≡ b → server_entry (world_with_step world (steps.Node server ask)) other number ≡ Some e
+      by true t =
+          let same = eqb-true server other t in
+          let before = sym (ap (entry_in number) (item_below world.servers server (server_journal world server) room.above room.is_there)) ∙ ap (λ (n : ℕ). server_entry world n number) same ∙ is in
+          ap (λ (n : ℕ). server_entry (world_with_step world (steps.Node server ask)) n number) (sym same)
+          ∙ entered_at number
+          ∙ item_push (server_journal world server) number e (node_entry world server ask) before
+      by false t =
+          let apart : server ≢ other = λ same. absurd (false≢true (sym t ∙ eq-eqb server other same)) in
+          ap (entry_in number) (item_set_other world.servers server other entries_after room.above apart) ∙ is
+
+  pub entry_new : server_entry (world_after world (steps.Node server ask)) server (suc (length (server_journal world server))) ≡ Some (node_entry world server ask)
+  entry_new =
+      let last = suc (length (server_journal world server)) in
+      ap (λ (w : JournalsView). server_entry w server last) (world_grown world (steps.Node server ask) none)
+      ∙ entered_at last
+      ∙ item_last (server_journal world server) (node_entry world server ask)
+
+-- each entry of a server that stands is there after a step too
+pub entry_stays : (world : JournalsView) (step : Step) (server number : ℕ) (e : NodeEntry) → server_entry world server number ≡ Some e → server_entry (world_after world step) server number ≡ Some e
+entry_stays world step server number e is = by step (refusal world step) refl
+  where
+    by : (step : Step) (refused : Option Refusal) → refusal world step ≡ refused → server_entry (state_at refused world (world_with_step world step)) server number ≡ Some e
+    by (steps.Node other ask) None none = entry_kept world other ask none server number e is
+    by step None none = is
+    by step (Some reason) refuses = is
+
+-- and so it is at the desk
+pub desk_new : (world : JournalsView) (ask : DeskAsk) → refusal world (steps.Desk ask) ≡ None → item_at (world_after world (steps.Desk ask)).desk (suc (length world.desk)) ≡ Some (desk_entry world ask)
+desk_new world ask none =
+    ap (λ (w : JournalsView). item_at w.desk (suc (length world.desk))) (world_grown world (steps.Desk ask) none) ∙ item_last world.desk (desk_entry world ask)
+
+pub desk_stays : (world : JournalsView) (step : Step) (number : ℕ) (e : DeskEntry) → item_at world.desk number ≡ Some e → item_at (world_after world step).desk number ≡ Some e
+desk_stays world step number e is = by step (refusal world step)
+  where
+    by : (step : Step) (refused : Option Refusal) → item_at (state_at refused world (world_with_step world step)).desk number ≡ Some e
+    by (steps.Desk ask) None = item_push world.desk number e (desk_entry world ask) is
+    by step None = is
+    by step (Some reason) = is
 
 node_state-is : (server : ℕ) (entries : List NodeEntry) → node_at server entries ≡ node_state server (reverse entries)
 node_state-is server entries = state-reverse (λ old number ask. node_reply server old ask) (node_after server) nothing_stored entries

@@ -15,4 +15,4 @@ pub use citation::{Citation, cited_in_node_ask};
 pub use founded::{is_ended, is_granted, is_peeked, is_voted, item_at};
 pub use service::Service;
 pub use tq_shape::{Answered, Part};
-pub use unfounded::{CitedEntries, unfounded_in_desk_ask, unfounded_in_node_ask};
+pub use unfounded::{CitedEntries, Warrant, unfounded_in_desk_ask, unfounded_in_node_ask};

@@ -7,13 +7,12 @@ ghost use Rattle.tq_tables.specs.Tables.{tables_of};
 ghost use Rattle.tq_core.specs.Service as asks;
 
 use crate::{
-    Answer, Answered, Citation, CitedEntries, Journal, Refusal, Reply, Step, item_at,
-    unfounded_in_desk_ask, unfounded_in_node_ask,
+    Answer, Answered, Citation, CitedEntries, Journal, Refusal, Reply, Step, Warrant, item_at,
 };
 use std::alloc::Global;
 use std::marker::Model;
 use tq_asks::{NodeAsk, NodeReply};
-use tq_desk::{ByRules, DeskAsk, DeskReply, Judge};
+use tq_desk::{ByRules, DeskAsk, DeskReply};
 use tq_live::{View, ViewAsk, ViewReply};
 use tq_shape::{AskFault, Levels, Limits, Memory, Part, ServerId, make_room};
 use tq_tables::{DeskEntry, Entry, Journals, NodeEntry, Replies, TabledJournals, Tables};
@@ -165,15 +164,16 @@ impl Service {
     }
 
     /// Asks a server: the ask is entered into its journal with its reply, which is told with the number of the entry.
-    /// Where the ask is not taken, everything is as it was.
+    /// `J` finds the entry that it cites. Where the ask is not taken, everything is as it was.
     #[inline(always)]
-    pub fn ask_node(
+    pub fn ask_node<J: Warrant>(
         &mut self,
         alloc: Global,
         server: ServerId,
         ask: NodeAsk,
     ) -> Result<Answered<NodeReply>, AskFault>
-        requires { server.levels ≡ self.old.levels }
+        requires tree { server.levels ≡ self.old.levels }
+        requires founded { J.founds_node self.old ask }
         ensures told { spec.IsTold self.old (Step.Node server.number ask)
             (told_by Reply.Node result) }
         ensures after { OnOk result (self.new
@@ -184,7 +184,7 @@ impl Service {
         self.show_run();
         let number = server.number();
         let place = (number - 1) as usize;
-        let unfounded = unfounded_in_node_ask(self, &ask);
+        let unfounded = J::unfounded_node(self, &ask);
         let entries = self.tabled.servers[place].len();
         if let Some(fault) = self.refusal(Part::Server(number), entries, unfounded) {
             return Err(fault);
@@ -206,20 +206,22 @@ impl Service {
     }
 
     /// Asks the desk: the ask is entered into its journal with its reply, which is told with the number of the entry.
-    /// Of a commit the evidence is judged by `J`. Where the ask is not taken, everything is as it was.
-    pub fn ask_desk<J: Judge>(
+    /// Of a commit `J` judges the evidence, and finds the entries that it cites. Where the ask is not taken, everything
+    /// is as it was.
+    pub fn ask_desk<J: Warrant>(
         &mut self,
         alloc: Global,
         ask: DeskAsk,
     ) -> Result<Answered<DeskReply>, AskFault>
-        requires { J.takes self.old.levels ask }
+        requires judged { J.takes self.old.levels ask }
+        requires founded { J.founds self.old ask }
         ensures told { spec.IsTold self.old (Step.Desk ask) (told_by Reply.Desk result) }
         ensures after { OnOk result (self.new ≡ spec.world_after self.old (Step.Desk ask)) }
         ensures err { OnErr result (self.new ≡ self.old) }
         ensures committed_reads { HasCommittedReads self.new }
     {
         self.show_run();
-        let unfounded = unfounded_in_desk_ask(self, &ask);
+        let unfounded = J::unfounded(self, &ask);
         let entries = self.tabled.desk.len();
         if let Some(fault) = self.refusal(Part::Desk, entries, unfounded) {
             return Err(fault);
@@ -284,7 +286,7 @@ impl Service {
                     self.show_run();
                     return Err(Refusal::NoSuchServer);
                 };
-                match self.ask_node(alloc, id, ask) {
+                match self.ask_node::<ByRules>(alloc, id, ask) {
                     Ok(told) => Ok(Answer {
                         number: told.number,
                         reply: Reply::Node(told.reply),

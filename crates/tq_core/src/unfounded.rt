@@ -8,7 +8,7 @@ ghost use Rattle.tq_core.specs.Founded as spec;
 use crate::citation::{Citation, cited_grant, cited_in_work, cited_vote};
 use crate::founded::{is_ended, is_granted, is_peeked, is_voted, item_at};
 use tq_asks::{CitedVote, NodeAsk, Verdict, WorkAsk};
-use tq_desk::{DeskAsk, Grant, Op, Vote};
+use tq_desk::{ByProof, ByRules, DeskAsk, Grant, Judge, Op, Vote};
 use tq_store::{Content, FileName};
 use tq_tables::{DeskEntry, Journals, NodeEntry};
 
@@ -54,6 +54,62 @@ pub fn unfounded_in_desk_ask<E: CitedEntries>(entries: &E, ask: &DeskAsk) -> Opt
             }
         }
         _ => None,
+    }
+}
+
+/// A judge of the evidence of commits who also finds what asks cite.
+pub trait Warrant: Judge {
+    ghost use Rattle.tq_asks.specs.declared.ask.NodeAsk.{NodeAsk};
+    ghost use Rattle.tq_desk.specs.declared.ask.DeskAsk.{DeskAsk};
+
+    /// The asks of the desk that may come before it where these are the journals.
+    ghost founds: { JournalsView → DeskAsk → Type 0 };
+
+    /// The asks of servers that may.
+    ghost founds_node: { JournalsView → NodeAsk → Type 0 };
+
+    /// The first citation of the ask that is not founded in these journals.
+    fn unfounded<E: CitedEntries>(entries: &E, ask: &DeskAsk) -> Option<Citation>
+        requires { founds (E.journals entries.now) ask.now }
+        ensures { result ≡ spec.unfounded_in_desk_ask (E.journals entries.now) ask.now };
+
+    /// What the ask of a server cites, where that is not founded in these journals.
+    fn unfounded_node<E: CitedEntries>(entries: &E, ask: &NodeAsk) -> Option<Citation>
+        requires { founds_node (E.journals entries.now) ask.now }
+        ensures { result ≡ spec.unfounded_in_node_ask (E.journals entries.now) ask.now };
+}
+
+/// Each entry that is cited is looked up.
+impl Warrant for ByRules {
+    ghost founds = { λ journals ask. Unit {0} };
+
+    ghost founds_node = { λ journals ask. Unit {0} };
+
+    fn unfounded<E: CitedEntries>(entries: &E, ask: &DeskAsk) -> Option<Citation> {
+        unfounded_in_desk_ask(entries, ask)
+    }
+
+    #[inline(always)]
+    fn unfounded_node<E: CitedEntries>(entries: &E, ask: &NodeAsk) -> Option<Citation> {
+        unfounded_in_node_ask(entries, ask)
+    }
+}
+
+/// The caller's proof that the entries stand: none is looked up.
+impl Warrant for ByProof {
+    ghost use Rattle.std.specs.Prelude.{◌≡◌, None};
+
+    ghost founds = { λ journals ask. spec.unfounded_in_desk_ask journals ask ≡ None };
+
+    ghost founds_node = { λ journals ask. spec.unfounded_in_node_ask journals ask ≡ None };
+
+    fn unfounded<E: CitedEntries>(_entries: &E, _ask: &DeskAsk) -> Option<Citation> {
+        None
+    }
+
+    #[inline(always)]
+    fn unfounded_node<E: CitedEntries>(_entries: &E, _ask: &NodeAsk) -> Option<Citation> {
+        None
     }
 }
 

@@ -1,6 +1,6 @@
 //! A set of servers as bits, for the test.
 
-ghost use Rattle.std.specs.Prelude.{◌≡◌, ◌+◌, ◌*◌, ◌^◌, ◌<◌, ◌==◌, ◌||◌, ℕ, All, false, slice_index};
+ghost use Rattle.std.specs.Prelude.{◌≡◌, ◌+◌, ◌*◌, ◌^◌, ◌<◌, ◌==◌, ℕ, All, false, slice_index};
 ghost use Rattle.std.specs.Bool.{OnTrue, OnFalse};
 ghost use Rattle.tq_shape.specs.Tree.{height_of};
 ghost use Rattle.tq_coterie.specs.Parts.{part_of, is_marked, part_at, AreMarksOf, HasMarkMore, HasNoMarkBetween, IsBare, IsRaised};

@@ -345,25 +345,18 @@ fn refusal_plan(reason: DeskRefusal) -> Plan<DeskReply, DeskChange>
 }
 
 /// The votes as a commit's record cites them.
-fn cited_votes(alloc: Global, votes: &[Vote]) -> Result<SharedSeq<CitedVote>, Memory>
+#[inline(always)]
+pub fn cited_votes(alloc: Global, votes: &[Vote]) -> Result<SharedSeq<CitedVote>, Memory>
     ensures { IfOk result (λ list. list ≡ spec.cited_votes votes.now) }
 {
-    Ok(SharedSeq::from_vec(citations(alloc, votes)?)?)
-}
-
-fn citations(alloc: Global, votes: &[Vote]) -> Result<Vec<CitedVote>, Memory>
-    ensures { IfOk result (λ list. list.items ≡ spec.cited_votes votes.now) }
-{
-    votes.iter().map(|vote| citation(vote)).collect(alloc)
-}
-
-fn citation(vote: &Vote) -> CitedVote
-    ensures { result ≡ spec.citation vote.now }
-{
-    CitedVote {
-        server: vote.server,
-        number: vote.number,
+    let mut cited = Vec::with_capacity(alloc, votes.len())?;
+    for vote in votes {
+        cited.push_reserved(CitedVote {
+            server: vote.server,
+            number: vote.number,
+        });
     }
+    Ok(SharedSeq::from_vec(cited)?)
 }
 
 /// What an ask changes in a desk.

@@ -13,7 +13,7 @@ mod judge;
 mod laws;
 
 pub use ask::{DeskAsk, DeskRefusal, DeskReply};
-pub use desk::{Desk, DeskChange};
+pub use desk::{Desk, DeskChange, cited_votes};
 pub use judge::{ByProof, ByRules, Judge};
 pub use laws::{decision_log, desk_laws};
 pub use tq_evidence::{Grant, Op, OpKind, Rule, Vote};

@@ -19,7 +19,7 @@ pub struct MemorySource<'a> {
 }
 
 impl<'a> Model for MemorySource<'a> {
-    ghost use Rattle.std.specs.Prelude.{◌≡◌, ◌≤◌, ◌<◌, take, drop, true};
+    ghost use Rattle.std.specs.Prelude.{◌≤◌, ◌<◌, take, drop};
     ghost use Rattle.std.proofs.Common.{length};
     ghost use Rattle.tq_devices.specs.Devices.{KnownSource};
 
@@ -60,7 +60,6 @@ impl<'a> MemorySource<'a> {
 
 impl<'a> Source for MemorySource<'a> {
     ghost use Rattle.std.specs.Prelude.{Some, ◌≡◌, ◌+◌, ◌-◌, ◌^◌, ◌<◌, ◌≤◌, ◌↔◌, [], IsErr, IfOk, OnErr, IsTrue, length};
-    ghost use Rattle.std.specs.Io.KnownBytes.{Appends};
     ghost use Rattle.tq_devices.specs.Devices.{Counts, GivesFront, LeavesRest};
 
     ghost given = { λ source. Some source.given };

@@ -1,10 +1,9 @@
 -- What contracts see of a list that is owned or shared.
 use Rattle.std.specs.Prelude.{List}
-use Rattle.std.specs.Arc.{arc_value}
 use Rattle.tq_evidence.specs.declared.shareable.Form.{Form}
 use Rattle.tq_evidence.specs.declared.shareable.Form.TheVariants.{Owned, Shared}
 
 -- the items, wherever they stand
 abbrev pub items_of : {T : Type 0} → Form T → List T
 items_of (Owned items) = items.items
-items_of (Shared items) = (arc_value items).items
+items_of (Shared items) = items

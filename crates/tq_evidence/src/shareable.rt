@@ -1,12 +1,10 @@
 //! A list that is owned until it is shared.
 
-ghost use Rattle.std.specs.Prelude.{◌≡◌};
+ghost use Rattle.std.specs.Prelude.{◌≡◌, IfOk};
 
 use std::alloc::AllocError;
 use std::marker::Model;
-use std::mem;
-use std::sync::Arc;
-use tq_shape::{ExactClone, Memory};
+use tq_shape::{ExactClone, Memory, SharedSeq};
 
 /// A list that takes no more memory than its vector, until it is shared: from then on a clone is a count, not a copy.
 /// Contracts see it as the list alone.
@@ -25,7 +23,7 @@ impl<T: Drop> Drop for Shareable<T> {
 #[derive(Drop)]
 enum Form<T> {
     Owned(Vec<T>),
-    Shared(Arc<Vec<T>>),
+    Shared(SharedSeq<T>),
 }
 
 impl<T> Model for Shareable<T> {
@@ -62,16 +60,16 @@ impl<T> Shareable<T> {
 }
 
 impl<T: Drop> Shareable<T> {
-    /// Has its clones share the list from now on. Out of memory leaves it as it was.
+    /// Has its clones share the list from now on, with no room to spare. Out of memory leaves it as it was.
     pub fn share(&mut self) -> Result<(), Memory>
         ensures { self.new ≡ self.old }
     {
         let Form::Owned(items) = &mut self.form else {
             return Ok(());
         };
-        let alloc = *items.allocator();
-        let owned = mem::replace(items, Vec::new(alloc));
-        match Arc::new(alloc, owned) {
+        let mut exact = Vec::with_capacity(*items.allocator(), items.len())?;
+        exact.append(items)?;
+        match SharedSeq::from_vec(exact) {
             Ok(shared) => {
                 self.form = Form::Shared(shared);
                 Ok(())
@@ -80,6 +78,18 @@ impl<T: Drop> Shareable<T> {
                 self.form = Form::Owned(refused.value);
                 Err(AllocError)
             }
+        }
+    }
+}
+
+impl<T: ExactClone> Shareable<T> {
+    /// The list as clones share it: a count where it is shared, and else a copy.
+    pub fn shared(&self) -> Result<SharedSeq<T>, Memory>
+        ensures { IfOk result (λ list. list ≡ self.now) }
+    {
+        match &self.form {
+            Form::Owned(items) => Ok(SharedSeq::from_vec(items.clone()?)?),
+            Form::Shared(items) => Ok(items.clone()?),
         }
     }
 }

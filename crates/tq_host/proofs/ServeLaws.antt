@@ -25,9 +25,6 @@ module _ {S A R : Type 0} (after : S → ℕ → A → S) (entry_line : A → R 
   pub told-full : new ≡ with_answer old full_text → new ≡ with_told after entry_line told_line old full
   told-full e = e ∙ no-entry old full_text
 
-  pub told-memory : new ≡ with_answer old memory_text → new ≡ with_told after entry_line told_line old memory
-  told-memory e = e ∙ no-entry old memory_text
-
 -- ---- serve laws
 
 again : (P : Option (List ℕ) → Type 0) (now then : Option (List ℕ)) → then ≡ now → P now → P then

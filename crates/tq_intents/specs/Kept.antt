@@ -17,7 +17,8 @@ use Rattle.tq_shape.specs.Journal.{Has}
 use Rattle.tq_store.specs.Names.{same_name}
 use Rattle.std.specs.Coded.{Coded, code_by, coded×, coded_list, coded_ℕ}
 use Rattle.std.specs.BTreeMap.{is_at}
-use Rattle.std.specs.Map.{lookup}
+use Rattle.std.specs.List.Sorted.{IsStrictlySortedBy}
+use Rattle.std.specs.Map.{keys_of, lookup}
 use Rattle.std.specs.Global.{Vec}
 
 -- the open votes, by transaction
@@ -160,6 +161,19 @@ newer_first count files writes = filter (is_newer files) (take count writes)
 abbrev pub HasEachVote : List Record → List (ℕ × OpenVote) → Type 0
 HasEachVote records entries = (txn : ℕ) → lookup (is_at (nat_cmp txn)) entries ≡ fin.get (kept_votes records) txn
 
+-- the votes of an index: the one that is alone, or else those of the map
+abbrev pub votes_in : Option (ℕ × OpenVote) → List (ℕ × OpenVote) → List (ℕ × OpenVote)
+votes_in (Some vote) others = vote ∷ []
+votes_in None others = others
+
+-- the vote that these have of a transaction
+abbrev pub vote_in : List (ℕ × OpenVote) → ℕ → Option OpenVote
+vote_in votes txn = lookup (is_at (nat_cmp txn)) votes
+
+-- they ascend by transaction
+abbrev pub AreInOrder : List (ℕ × OpenVote) → Type 0
+AreInOrder votes = IsStrictlySortedBy nat_cmp (keys_of votes)
+
 -- the entries are the open votes, one for a transaction
 pub record IsIndex (records : List Record) (entries : List (ℕ × OpenVote)) : Type 0 where
   pub one_each : HasOneVoteEach records
@@ -207,3 +221,7 @@ AddsOpenVote old new txn vote = AddsVote old new txn vote.number vote.writes vot
 -- the index has this vote of the transaction, and of others what it had
 abbrev pub Indexes : List (ℕ × OpenVote) → List (ℕ × OpenVote) → ℕ → OpenVote → Type 0
 Indexes old new txn vote = (other : ℕ) → lookup (is_at (nat_cmp other)) new ≡ (if is_at (nat_cmp txn) other then Some vote else lookup (is_at (nat_cmp other)) old)
+
+-- the index has no vote of the transaction, and of others what it had
+abbrev pub IsWithout : List (ℕ × OpenVote) → List (ℕ × OpenVote) → ℕ → Type 0
+IsWithout old new txn = (other : ℕ) → vote_in new other ≡ (if is_at (nat_cmp txn) other then None else vote_in old other)

@@ -1,18 +1,18 @@
 //! The stable records of a server, with an index of its open votes.
 
-ghost use Rattle.std.specs.Prelude.{◌≡◌, ◌+◌, ◌<◌, ◌≤◌, ◌++◌, [], ◌∷◌, OnOk, OnErr, IfOk, map, length, take, IsSome};
+ghost use Rattle.std.specs.Prelude.{◌≡◌, ◌+◌, ◌<◌, ◌≤◌, ◌++◌, [], ◌∷◌, None, OnOk, OnErr, IfOk, map, length, take, IsSome};
 ghost use Rattle.std.specs.FinMap as fin;
 ghost use Rattle.std.specs.Option.{option_copied};
 ghost use Rattle.std.specs.List.{list_any, filter_map};
 ghost use Rattle.tq_store.specs.Copies.{installed_all};
-ghost use Rattle.tq_intents.specs.Kept.{with_end, AddsOpenVote, AddsVote, Indexes, KeepsCopies, KeepsCopy, OpensVote, WritesVote, HasEachVote, kept_copies, kept_votes, vote_records, HasOneVoteEach, HoldsVotesLocks, IsAbove, IsUnfinished, KeepsNewest, newer_first};
+ghost use Rattle.tq_intents.specs.Kept.{with_end, AddsOpenVote, AddsVote, Indexes, KeepsCopies, KeepsCopy, OpensVote, WritesVote, HasEachVote, kept_copies, kept_votes, vote_in, vote_records, HasOneVoteEach, HoldsVotesLocks, IsAbove, IsUnfinished, KeepsNewest, newer_first};
 ghost use Rattle.tq_intents.specs.Kept as spec;
 ghost use Rattle.tq_intents.specs.Sharing.{lock_of_vote};
 
+use crate::record::{OpenVotes, VotesLeft};
 use crate::{KeptLock, LockVersions, NewerWrite, OpenVote, Record, SharedWrite, VoteLocks};
 use std::alloc::{AllocError, Global};
 use std::collections::BTreeMap;
-use std::collections::btree_map::Iter;
 use std::marker::Model;
 use tq_asks::HeldLock;
 use tq_shape::{Seq, SharedSeq, make_room};
@@ -21,7 +21,7 @@ use tq_store::{Copies, Write};
 /// The stable records of a server, and an index of the open votes that they stand for.
 pub struct Intents {
     records: Vec<Record>,
-    open_votes: BTreeMap<u64, OpenVote>,
+    open_votes: OpenVotes,
 }
 
 // Written out, so that a crate above lets go of one by a call.
@@ -48,7 +48,7 @@ impl Model for Intents {
       room = vec_capacity a.records - vec_len a.records;
     } };
 
-    ghost invariant = { λ a. IsIndex a.records.items a.open_votes.entries };
+    ghost invariant = { λ a. IsIndex a.records.items a.open_votes };
 }
 
 impl Intents {
@@ -58,7 +58,7 @@ impl Intents {
     {
         Intents {
             records: Vec::new(alloc),
-            open_votes: BTreeMap::new(alloc),
+            open_votes: OpenVotes::of(BTreeMap::new(alloc)),
         }
     }
 
@@ -67,7 +67,7 @@ impl Intents {
         requires { HasOneVoteEach records.now }
         ensures { IfOk result (λ intents. intents.records ≡ records.now) }
     {
-        let open_votes = index(alloc, records)?;
+        let open_votes = OpenVotes::of(index(alloc, records)?);
         let kept = copy_of(alloc, records)?;
         Ok(Intents {
             records: kept,
@@ -80,7 +80,7 @@ impl Intents {
         ensures { IfOk result (λ copy. copy.records ≡ self.now.records) }
     {
         let records = copy_of(alloc, self.records.as_slice())?;
-        let open_votes = self.open_votes.clone()?;
+        let open_votes = self.open_votes.copy()?;
         Ok(Intents {
             records,
             open_votes,
@@ -109,11 +109,11 @@ impl Intents {
     pub fn of(&self, txn: u64) -> Option<&OpenVote>
         ensures { option_copied result ≡ fin.get (kept_votes self.now.records) txn }
     {
-        self.open_votes.get(&txn)
+        self.open_votes.get(txn)
     }
 
     /// The open votes, ascending by transaction.
-    pub fn votes(&self) -> Iter<'_, u64, OpenVote>
+    pub fn votes(&self) -> VotesLeft<'_>
         ensures { result ≡ fin.entries (kept_votes self.now.records) }
     {
         self.open_votes.iter()
@@ -239,6 +239,7 @@ impl Intents {
     }
 
     /// Ends the open vote of a transaction, in the room that was made for it.
+    #[inline(always)]
     pub fn finish(&mut self, txn: u64)
         requires open { IsSome (fin.get (kept_votes self.old.records) txn) }
         requires room { 0 < self.old.room }
@@ -246,7 +247,7 @@ impl Intents {
         ensures votes { kept_votes self.new.records ≡ fin.remove (kept_votes self.old.records) txn }
         ensures copies { kept_copies self.new.records ≡ kept_copies self.old.records }
     {
-        let vote = self.open_votes.remove(&txn).unwrap();
+        let vote = self.open_votes.end(txn);
         let number = vote.number;
         self.records.push_reserved(Record::Gone { txn, number });
     }
@@ -256,9 +257,10 @@ impl Intents {
 fn copy_of(alloc: Global, records: &[Record]) -> Result<Vec<Record>, AllocError>
     ensures { IfOk result (λ copy. copy.items ≡ records.now) }
 {
-    let mut copy = Vec::new(alloc);
+    let mut copy = Vec::with_capacity(alloc, records.len())?;
     for record in records {
-        copy.push(record.clone()?)?;
+        let kept = record.clone()?;
+        copy.push_reserved(kept);
     }
     Ok(copy)
 }
@@ -305,6 +307,7 @@ pub fn vote_records(
 }
 
 /// Writes the records of a vote behind the others. Where memory is refused, the first of them may stand there.
+#[inline(always)]
 fn push_vote(
     records: &mut Vec<Record>,
     txn: u64,
@@ -333,18 +336,18 @@ fn push_vote(
 /// stand behind the others.
 fn give(
     records: &mut Vec<Record>,
-    open_votes: &mut BTreeMap<u64, OpenVote>,
+    open_votes: &mut OpenVotes,
     txn: u64,
     vote: OpenVote,
 ) -> Result<(), AllocError>
+    requires { vote_in open_votes.old txn ≡ None }
     ensures records { OnOk result (AddsOpenVote records.old records.new txn vote) }
-    ensures votes { OnOk result (Indexes open_votes.old.entries open_votes.new.entries txn vote) }
+    ensures votes { OnOk result (Indexes open_votes.old open_votes.new txn vote) }
     ensures first { take (length records.old.items) records.new.items ≡ records.old.items }
-    ensures err { OnErr result (open_votes.new.entries ≡ open_votes.old.entries) }
+    ensures err { OnErr result (open_votes.new ≡ open_votes.old) }
 {
     push_vote(records, txn, vote.number, &vote.writes, &vote.locks)?;
-    let _replaced = open_votes.insert(txn, vote)?;
-    Ok(())
+    open_votes.open(txn, vote)
 }
 
 /// The open votes of a list of records, by transaction.
@@ -455,7 +458,7 @@ fn writes_of(
             writes.push(write.write()?)?;
         }
     }
-    SharedSeq::from_vec(writes)
+    Ok(SharedSeq::from_vec(writes)?)
 }
 
 fn locks_of(

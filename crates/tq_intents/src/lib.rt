@@ -12,7 +12,7 @@ mod vote_locks;
 
 pub use intents::{Intents, vote_records};
 pub use newer_write::NewerWrite;
-pub use record::{KeptLock, OpenVote, Record};
+pub use record::{KeptLock, OpenVote, Record, VotesLeft};
 pub use shared_lock::SharedLock;
 pub use shared_write::SharedWrite;
 pub use vote_locks::{LockVersions, VoteLocks};

@@ -1,8 +1,10 @@
 -- Jobs one after another, and what each asks. What a recorder notes of a step: it is told last, and all that was told
 -- leads to the journals after the step.
 use Rattle.std.specs.Int.{from_bool}
-use Rattle.std.proofs.Common.{◌≡◌, ◌∙◌, ◌+◌, ◌≤◌, ℕ, Bool, true, cond, List, [], ◌∷◌, ◌++◌, length, append_assoc, None, Err, false, refl, sym, ap, subst, arith, suc, Option, Some, Result, Ok, append-nil}
+use Rattle.std.proofs.Common.{◌≡◌, ◌∙◌, ◌+◌, ◌≤◌, ℕ, Bool, true, cond, List, [], ◌∷◌, ◌++◌, length, append_assoc, None, Err, false, refl, sym, ap, subst, arith, suc, Option, Some, Result, Ok, append-nil, inl, inr, ◌==◌}
+use Rattle.std.proofs.lemmas.Bool.{eqb-true}
 use Rattle.std.proofs.lemmas.List.{length-append}
+use Rattle.std.proofs.lemmas.List.Elements.{All-nil, All-cons, All-head, All-tail, All-push, All-weaker, All-contains}
 use Rattle.tq_tables.specs.Journals.{JournalsView}
 use Rattle.tq_core.specs.declared.answer.Step.TheVariants as steps
 use Rattle.tq_core.specs.Steps.{world_after, IsTold, told_at, refuse_unfounded, refuse_entry, refuse_at, refusal, answer, world_with_step, server_journal, node_entry, desk_entry, view_entry}
@@ -16,12 +18,21 @@ use Rattle.tq_refresh.specs.declared.job.Job.{Job}
 use Rattle.tq_refresh.specs.Plan.{answer_in, mends_asked}
 use Rattle.tq_interpreter.specs.Answer.{LeadsOn, Mended, nothing_mended, behind, so_far, jobs_asked, with_job, job_text, count_text, refresh_asked, refresh_jobs, refreshed_text}
 use Rattle.tq_text.specs.Print.{printed_line, is_memory}
-use Rattle.tq_interpreter.specs.Recorded.{Ran, run_line, node_told, desk_told, view_told, untaken_at, step_refusal, told_by, RecorderView, IsReplayed, told_exchanges, step_of, Matches, Replays}
+use Rattle.tq_interpreter.specs.Recorded.{Ran, run_line, node_told, desk_told, view_told, untaken_at, step_refusal, told_by, mark_of, RecorderView, StandsIn, IsReplayed, told_exchanges, step_of, Matches, Replays}
 use Rattle.tq_interpreter.proofs.ShellLines.{replays_on, then_ran, replays_push}
 use Rattle.std.specs.Prelude.{nat_le, if◌then◌else◌, OnOk, OnErr}
-use Rattle.std.specs.List.{flat_map}
+use Rattle.std.specs.List.{All, Contains, flat_map}
 use Rattle.std.specs.Option.{option_map, unwrap_or}
 use Rattle.tq_desk.specs.declared.ask.DeskAsk.{DeskAsk}
+use Rattle.tq_desk.specs.declared.ask.DeskAsk.TheVariants as desk_asks
+use Rattle.tq_desk.specs.declared.ask.DeskRefusal.TheVariants as desk_refusals
+use Rattle.tq_desk.specs.declared.ask.DeskReply.TheVariants as desk_replies
+use Rattle.tq_desk.specs.DeskStep.{cited_votes}
+use Rattle.tq_desk.specs.DeskJournal.{gives_verdict}
+use Rattle.tq_asks.specs.declared.ask.Verdict.{Verdict}
+use Rattle.tq_asks.specs.declared.ask.Verdict.TheVariants as verdicts
+use Rattle.tq_txn_states.specs.Ended.{verdict_by}
+use Rattle.tq_evidence.specs.declared.grant.Grant.{Grant}
 use Rattle.tq_live.specs.declared.view.ViewAsk.{ViewAsk}
 use Rattle.tq_node.specs.NodeJournal.{NodeEntry}
 use Rattle.tq_core.specs.declared.answer.Answer.{Answer}
@@ -31,13 +42,18 @@ use Rattle.tq_core.specs.declared.answer.Reply.TheVariants as replies
 use Rattle.tq_core.specs.declared.answer.Step.{Step}
 use Rattle.tq_core.specs.declared.citation.Citation.{Citation}
 use Rattle.tq_core.specs.Founded.{unfounded_in_node_ask, unfounded_in_desk_ask}
-use Rattle.tq_core.specs.World.{item_at}
-use Rattle.tq_shape.specs.Journal.{state_at}
+use Rattle.tq_core.specs.World.{item_at, server_entry}
+use Rattle.tq_core.proofs.Contents.{granted-founded, voted-founded, commit-founded, verdict-founded}
+use Rattle.tq_core.proofs.Journaled.{desk_new, desk_stays, entry_new, entry_stays}
+use Rattle.tq_shape.specs.Journal.{Has, entry, state_at}
 use Rattle.tq_shape.specs.declared.part.Part.{Part}
 use Rattle.tq_shape.specs.declared.part.Part.TheVariants as parts
 use Rattle.tq_desk.specs.declared.ask.DeskReply.{DeskReply}
 use Rattle.tq_live.specs.declared.view.ViewReply.{ViewReply}
 use Rattle.tq_txn.specs.declared.asker.Exchange.{Exchange}
+use Rattle.tq_txn.specs.Told.{IsVerdictTold, answers_in}
+use Rattle.tq_txn_states.specs.declared.told.NodeTold.{NodeTold}
+use Rattle.tq_txn_states.specs.Voting.{CitesOnly, IsOpTold, IsVoteTold, grant_told, vote_told}
 use Rattle.tq_core.specs.Service.{refusal_of, told_by as told_step}
 
 pub node_answered : (server : ℕ) (ask : NodeAsk) (told : Told NodeReply) (old new : RecorderView) → IsReplayed old → IsReplayed new → new.journals.levels ≡ old.journals.levels → new.told ≡ old.told ++ exchanges.Node server ask told ∷ []
@@ -237,6 +253,95 @@ handed_is told all server number ask handed answered noted numbers one =
     noted ∙ (λ i. told ++ flat_map (λ ask. told_exchanges answered (exchanges.Node (numbers i) ask answered)) (one i))
     ∙ ap (λ last. told ++ last) (append-nil (told_exchanges answered (exchanges.Node server ask answered)))
 
+-- ---- what was told stands
+
+-- what stands is there after a step too
+stays : (old new : JournalsView) (step : Step) → new ≡ world_after old step → (h : Exchange) → StandsIn old h → StandsIn new h
+stays old new step is (exchanges.Node server ask (Ok told)) stands =
+    ap (λ (w : JournalsView). server_entry w server told.number) is ∙ entry_stays old step server told.number (entry ask told.reply) stands
+stays old new step is (exchanges.Node server ask (Err fault)) stands = tt
+stays old new step is (exchanges.Desk ask (Ok told)) stands =
+    ap (λ (w : JournalsView). item_at w.desk told.number) is ∙ desk_stays old step told.number (entry ask told.reply) stands
+stays old new step is (exchanges.Desk ask (Err fault)) stands = tt
+stays old new step is (exchanges.View ask answer) stands = tt
+
+-- an answer of a server, as it was told
+abbrev AnswerStands : JournalsView → NodeTold → Type 0
+AnswerStands world told = server_entry world told.server told.number ≡ Some (entry told.ask told.reply)
+
+answers_stand : (world : JournalsView) (told : List Exchange) → All (StandsIn world) told → All (AnswerStands world) (answers_in told)
+answers_stand world [] all = All-nil (AnswerStands world)
+answers_stand world (exchanges.Node server ask (Ok answered) ∷ told) all =
+    let answer : NodeTold = record { server = server; number = answered.number; ask = ask; reply = answered.reply } in
+    let h : Exchange = exchanges.Node server ask (Ok answered) in
+    All-cons (AnswerStands world) answer (answers_in told) (All-head (StandsIn world) h told all) (answers_stand world told (All-tail (StandsIn world) h told all))
+answers_stand world (exchanges.Node server ask (Err fault) ∷ told) all = answers_stand world told (All-tail (StandsIn world) (exchanges.Node server ask (Err fault)) told all)
+answers_stand world (exchanges.Desk ask answer ∷ told) all = answers_stand world told (All-tail (StandsIn world) (exchanges.Desk ask answer) told all)
+answers_stand world (exchanges.View ask answer ∷ told) all = answers_stand world told (All-tail (StandsIn world) (exchanges.View ask answer) told all)
+
+all_has : {A : Type 0} (P : A → Type 0) (xs : List A) → All P xs → (x : A) → Has xs x → P x
+all_has P [] all x has = absurd has
+all_has P (y ∷ ys) all x (inl same) = subst P same (All-head P y ys all)
+all_has P (y ∷ ys) all x (inr has) = all_has P ys (All-tail P y ys all) x has
+
+-- so an ask of the desk that cites only what was told is founded
+pub founded_by : (world : JournalsView) (told : List Exchange) (ask : DeskAsk) → All (StandsIn world) told → CitesOnly (answers_in told) ask → unfounded_in_desk_ask world ask ≡ None
+founded_by world told (desk_asks.Commit txn ops votes) stand cites =
+    let answers = answers_in told in
+    let stands = answers_stand world told stand in
+    commit-founded world txn ops votes
+    (λ op has grant has_grant.
+    let here = all_has (λ (g : Grant). Contains answers (grant_told txn op.file g)) op.grants (all_has (IsOpTold txn answers) ops cites.0 op has) grant has_grant in
+    granted-founded world txn op.file grant (All-contains (AnswerStands world) answers (grant_told txn op.file grant) stands here))
+    (λ vote has.
+    let here = all_has (IsVoteTold txn answers) votes cites.1 vote has in
+    voted-founded world txn vote here.0 (All-contains (AnswerStands world) answers (vote_told txn vote here.0) stands here.1))
+founded_by world told desk_asks.Begin stand cites = refl
+founded_by world told (desk_asks.Resolve txn) stand cites = refl
+
+-- ---- what tells a verdict
+
+tested_some : {A : Type 0} (b : Bool) (a v : A) → Path (Option A) (if b then Some a else None) (Some v) → (b ≡ true) × (a ≡ v)
+tested_some true a v is = (refl, cc)
+tested_some {A = A} false a v is = absurd (let none : Path (Option A) None (Some v) = is in cc)
+
+tested_none : {A : Type 0} (b : Bool) (v : A) → Path (Option A) (if b then None else None) (Some v) → ⊥
+tested_none true v is = cc
+tested_none false v is = cc
+
+gives : (txn : ℕ) (verdict : Verdict) (ask : DeskAsk) (reply : DeskReply) → verdict_by txn ask reply ≡ Some verdict → gives_verdict (entry ask reply) txn verdict
+gives txn verdict (desk_asks.Commit asked ops votes) (desk_replies.Committed serial) is =
+    let both = tested_some (asked == txn) (verdicts.Commit (cited_votes votes)) verdict is in
+    inl (ops, votes, serial, ap (λ t. entry (desk_asks.Commit t ops votes) (desk_replies.Committed serial)) (eqb-true asked txn both.0), sym both.1)
+gives txn verdict (desk_asks.Commit asked ops votes) (desk_replies.Refused (desk_refusals.Decided final)) is =
+    let both = tested_some (asked == txn) final verdict is in
+    inr (inr (ops, votes, λ i. entry (desk_asks.Commit (eqb-true asked txn both.0 i) ops votes) (desk_replies.Refused (desk_refusals.Decided (both.1 i)))))
+gives txn verdict (desk_asks.Resolve asked) (desk_replies.Verdict final) is =
+    let both = tested_some (asked == txn) final verdict is in inr (inl (λ i. entry (desk_asks.Resolve (eqb-true asked txn both.0 i)) (desk_replies.Verdict (both.1 i))))
+gives txn verdict (desk_asks.Commit asked ops votes) reply is = absurd (tested_none (asked == txn) verdict is)
+gives txn verdict (desk_asks.Resolve asked) reply is = absurd (tested_none (asked == txn) verdict is)
+gives txn verdict desk_asks.Begin reply is = absurd (let none : Path (Option Verdict) None (Some verdict) = is in cc)
+
+-- so an ask that tells a verdict which the desk told is founded
+pub verdict_by_told : (world : JournalsView) (told : List Exchange) (ask : NodeAsk) → All (StandsIn world) told → IsVerdictTold told ask → unfounded_in_node_ask world ask ≡ None
+verdict_by_told world told ask stand is =
+    let ended = is.0 in
+    let told_by = is.2 in
+    let e = entry told_by.0 told_by.1 in
+    let there = All-contains (StandsIn world) told (exchanges.Desk told_by.0 (Ok (record { number = ended.cite; reply = told_by.1 }))) stand told_by.3 in
+    ap (unfounded_in_node_ask world) is.1 ∙ verdict-founded world ended.txn ended.verdict ended.cite e there (gives ended.txn ended.verdict told_by.0 told_by.1 told_by.2)
+
+-- where nothing was asked yet, nothing was told
+pub begun : (world : JournalsView) (told : List Exchange) → told ≡ mark_of world ∷ [] → IsReplayed (record { journals = world; told = told })
+begun world told is =
+    record {
+      start = world;
+      since = [];
+      told_is = is;
+      replays = refl;
+      stands = subst (λ (t : List Exchange). All (StandsIn world) t) (sym is) (All-cons (StandsIn world) (mark_of world) [] tt (All-nil (StandsIn world)));
+    }
+
 -- ---- what a recorder keeps of a step
 
 -- the recorder after a step: what it was told leads to its journals
@@ -245,8 +350,8 @@ pub record IsAsked (old new : JournalsView) (told : List Exchange) : Type 0 wher
   pub tree : new.levels ≡ old.levels
 
 module _ (old new : JournalsView) (told : List Exchange) (kept : IsReplayed (record { journals = old; told = told })) where
-  asked : (h : Exchange) → new ≡ world_after old (step_of h) → Matches old h → IsAsked old new (told ++ h ∷ [])
-  asked h is matches =
+  asked : (h : Exchange) → new ≡ world_after old (step_of h) → Matches old h → StandsIn new h → IsAsked old new (told ++ h ∷ [])
+  asked h is matches entered =
       let all : Replays kept.start (kept.since ++ h ∷ []) (world_after old (step_of h)) = replays_push kept.since h kept.start old kept.replays matches in
       record {
         kept = record {
@@ -254,18 +359,19 @@ module _ (old new : JournalsView) (told : List Exchange) (kept : IsReplayed (rec
           since = kept.since ++ h ∷ [];
           told_is = ap (λ t. t ++ h ∷ []) kept.told_is;
           replays = subst (λ (w : JournalsView). Replays kept.start (kept.since ++ h ∷ []) w) (sym is) all;
+          stands = All-push (StandsIn new) told h (All-weaker (StandsIn old) (StandsIn new) (stays old new (step_of h) is) told kept.stands) entered;
         };
         tree = ap (λ (w : JournalsView). w.levels) is ∙ levels_after old (step_of h);
       }
 
   -- an ask that was not taken
-  unasked : (step : Step) (fault : AskFault) (h : Exchange) → step_of h ≡ step → (step_refusal old step ≡ Some fault → Matches old h) → IsTold old step (Err (refusal_of fault)) → new ≡ old
+  unasked : (step : Step) (fault : AskFault) (h : Exchange) → step_of h ≡ step → (step_refusal old step ≡ Some fault → Matches old h) → StandsIn new h → IsTold old step (Err (refusal_of fault)) → new ≡ old
       → IsAsked old new (told ++ unless_memory fault h)
-  unasked step faults.Memory h steps_are matches answered same =
+  unasked step faults.Memory h steps_are matches stands answered same =
       subst (λ (w : JournalsView). IsAsked old w (told ++ [])) (sym same) (subst (λ (t : List Exchange). IsAsked old old t) (sym (append-nil told)) (record { kept = kept; tree = refl }))
-  unasked step fault h steps_are matches answered same =
+  unasked step fault h steps_are matches stands answered same =
       let refuses = told_err (refusal old step) (answer old step) (refusal_of fault) answered in
-      asked h (same ∙ sym (ap (λ (r : Option Refusal). state_at r old (world_with_step old step)) refuses) ∙ ap (λ (s : Step). world_after old s) (sym steps_are)) (matches (faulted old step fault refuses))
+      asked h (same ∙ sym (ap (λ (r : Option Refusal). state_at r old (world_with_step old step)) refuses) ∙ ap (λ (s : Step). world_after old s) (sym steps_are)) (matches (faulted old step fault refuses)) stands
 
   pub asked_node : (server : ℕ) (ask : NodeAsk) (answered : Told NodeReply) → IsTold old (steps.Node server ask) (told_step replies.Node answered)
       → OnOk answered (new ≡ world_after old (steps.Node server ask)) → OnErr answered (new ≡ old) → IsAsked old new (told ++ told_exchanges answered (exchanges.Node server ask answered))
@@ -276,9 +382,10 @@ module _ (old new : JournalsView) (told : List Exchange) (kept : IsReplayed (rec
       asked (exchanges.Node server ask (Ok taken_as)) after
       ((λ i. Ok (record { number = number i; reply = reply i }))
       ∙ sym (ap (λ (f : Option AskFault). told_by f (suc (length (server_journal old server))) (node_entry old server ask).reply) (taken old (steps.Node server ask) ok.0)))
+      ((λ i. server_entry (after i) server (number i)) ∙ entry_new old server ask ok.0 ∙ ap (λ (r : NodeReply). Some (entry ask r)) (sym reply))
   asked_node server ask (Err fault) is after same =
       unasked (steps.Node server ask) fault (exchanges.Node server ask (Err fault)) refl
-      (λ not. sym (ap (λ (f : Option AskFault). told_by f (suc (length (server_journal old server))) (node_entry old server ask).reply) not)) is same
+      (λ not. sym (ap (λ (f : Option AskFault). told_by f (suc (length (server_journal old server))) (node_entry old server ask).reply) not)) tt is same
 
   -- what is noted of an ask by a copy of it is replayed
   pub noted_node : (server number : ℕ) (ask copy : NodeAsk) (answered : Told NodeReply) (all : List Exchange) → IsTold old (steps.Node server ask) (told_step replies.Node answered)
@@ -297,9 +404,10 @@ module _ (old new : JournalsView) (told : List Exchange) (kept : IsReplayed (rec
       asked (exchanges.Desk ask (Ok taken_as)) after
       ((λ i. Ok (record { number = number i; reply = reply i }))
       ∙ sym (ap (λ (f : Option AskFault). told_by f (suc (length old.desk)) (desk_entry old ask).reply) (taken old (steps.Desk ask) ok.0)))
+      ((λ i. item_at (after i).desk (number i)) ∙ desk_new old ask ok.0 ∙ ap (λ (r : DeskReply). Some (entry ask r)) (sym reply))
   asked_desk ask (Err fault) is after same =
       unasked (steps.Desk ask) fault (exchanges.Desk ask (Err fault)) refl
-      (λ not. sym (ap (λ (f : Option AskFault). told_by f (suc (length old.desk)) (desk_entry old ask).reply) not)) is same
+      (λ not. sym (ap (λ (f : Option AskFault). told_by f (suc (length old.desk)) (desk_entry old ask).reply) not)) tt is same
 
   pub asked_view : (ask : ViewAsk) (answered : Told ViewReply) → IsTold old (steps.View ask) (told_step replies.View answered)
       → OnOk answered (new ≡ world_after old (steps.View ask)) → OnErr answered (new ≡ old) → IsAsked old new (told ++ told_exchanges answered (exchanges.View ask answered))
@@ -310,6 +418,7 @@ module _ (old new : JournalsView) (told : List Exchange) (kept : IsReplayed (rec
       asked (exchanges.View ask (Ok taken_as)) after
       ((λ i. Ok (record { number = number i; reply = reply i }))
       ∙ sym (ap (λ (f : Option AskFault). told_by f (suc (length old.view)) (view_entry old ask).reply) (taken old (steps.View ask) ok.0)))
+      tt
   asked_view ask (Err fault) is after same =
       unasked (steps.View ask) fault (exchanges.View ask (Err fault)) refl
-      (λ not. sym (ap (λ (f : Option AskFault). told_by f (suc (length old.view)) (view_entry old ask).reply) not)) is same
+      (λ not. sym (ap (λ (f : Option AskFault). told_by f (suc (length old.view)) (view_entry old ask).reply) not)) tt is same

@@ -1,6 +1,6 @@
 -- The asks of a line, each told what the service answers, are its run. A line of a transaction whose asks are the
 -- dialogue's is run so, and says this. A line of the shell whose asks are the dialogue's is answered so.
-use Rattle.std.proofs.Common.{◌≡◌, ◌∙◌, ◌-◌, ◌<◌, cond, nat_lt, arith, ℕ, true, List, [], ◌∷◌, ◌++◌, Some, None, append_assoc, refl, sym, ap, subst, false, Option, Result, Ok, Err, ◌+◌, length, get_or, inl, inr}
+use Rattle.std.proofs.Common.{◌≡◌, ◌∙◌, ◌-◌, ◌<◌, cond, nat_lt, arith, ℕ, true, List, [], ◌∷◌, ◌++◌, Some, None, append_assoc, append-nil, refl, sym, ap, subst, false, Option, Result, Ok, Err, ◌+◌, length, get_or, inl, inr}
 use Rattle.tq_tables.specs.Journals.{JournalsView}
 use Rattle.tq_core.specs.declared.answer.Step.TheVariants as steps
 use Rattle.tq_core.specs.Steps.{world_after}
@@ -15,24 +15,33 @@ use Rattle.tq_tables.specs.contracts.journals.Journals as journals_type
 use Rattle.tq_txn.specs.declared.fault.LineFault.{LineFault}
 use Rattle.tq_txn.specs.declared.fault.LineFault.TheVariants as faults
 use Rattle.tq_interpreter.specs.declared.txn_slot.TxnSlot.{TxnSlot}
-use Rattle.tq_interpreter.specs.TxnAsked.{TxnAnswer, IsAnswered, is_refused_memory, line_asked}
+use Rattle.tq_interpreter.specs.TxnAsked.{TxnAnswer, IsAnswered, IsClosed, is_refused_memory, line_asked}
+use Rattle.tq_interpreter.specs.declared.states.Closed.{Closed}
+use Rattle.tq_interpreter.specs.declared.states.Closed.TheVariants as closed
+use Rattle.tq_txn_states.specs.Voting.{VotingView}
 use Rattle.tq_text.specs.Print.{printed_line}
 use Rattle.tq_shape.specs.declared.fault.AskFault.{AskFault}
 use Rattle.tq_shape.specs.declared.fault.AskFault.TheVariants as ask_faults
 use Rattle.tq_desk.specs.declared.ask.DeskAsk.TheVariants.{Begin}
 use Rattle.tq_txn_states.specs.declared.told.DeskTold.{DeskTold}
-use Rattle.tq_txn.proofs.LineLaws.{asked_desk}
+use Rattle.tq_txn.proofs.LineLaws.{asked_desk, further}
 use Rattle.tq_interpreter.specs.Answer.{World, Answer, answer, answer_of_run, IsWhole, LineAnswer, begin_end, begin_reply, of_txn, refresh_line, text_answer, refresh_asked}
-use Rattle.tq_interpreter.specs.Known.{with_kept, AreOfTree, Known, fresh, known_of}
+use Rattle.tq_interpreter.specs.Known.{with_kept, AreKept, IsKept, IsLater, Known, fresh, known_of}
 use Rattle.tq_syntax.specs.declared.line.Line.TheVariants as shell_lines
 use Rattle.tq_syntax.specs.declared.line.TxnLine.{TxnLine}
 use Rattle.std.proofs.lemmas.Option.{slice_get_read}
 use Rattle.std.specs.Global.{Vec}
-use Rattle.std.proofs.lemmas.List.Elements.{All-push}
+use Rattle.std.proofs.lemmas.List.Elements.{All-nil, All-push, All-weaker}
 use Rattle.tq_shape.specs.Limits.{LimitsView}
 use Rattle.tq_desk.specs.declared.ask.DeskReply.{DeskReply}
 use Rattle.tq_desk.specs.declared.ask.DeskReply.TheVariants as desk_replies
-use Rattle.tq_txn.specs.Told.{levels_of}
+use Rattle.tq_txn.specs.Told.{IsEnding, Knows, levels_of}
+use Rattle.tq_txn.specs.declared.txn.Txn.{Txn}
+use Rattle.tq_txn.specs.declared.txn.Txn.TheVariants as states
+use Rattle.tq_txn_states.specs.Open.{OpenView, opening_txn}
+use Rattle.tq_txn_states.specs.Voting.{IsOpTold, IsVoteTold, KeepsOnly}
+use Rattle.tq_txn.proofs.CommitLaws.{levels_still}
+use Rattle.tq_txn.proofs.KnownLaws.{grown_along, knows_grow, open_fresh}
 
 pub item_of : {E : Type 0} (items : List E) (number place : ℕ) (x : E) → 0 < number → number - 1 ≡ place → slice_get items place ≡ Some x → item_at items number ≡ Some x
 item_of items number place x less same is =
@@ -204,17 +213,62 @@ refresh_answered journals known =
     let ran = then_ran (refresh_asked journals) (text_answer known) journals in
     (ap (λ r. (answer_of_run r).text) (sym ran), ap (λ r. (answer_of_run r).after) (sym ran))
 
--- a transaction that was begun is of the tree, as those before it are
-pub begun_of_tree : (levels : ℕ) (limits : LimitsView) (others : ℕ) (old new : Vec TxnSlot) (result : Result DeskTold LineFault) → (begin_end (known_of levels limits others old) result).known ≡ known_of levels limits others new
-    → AreOfTree levels old.items → AreOfTree levels new.items
-begun_of_tree levels limits others old new result known each = subst (λ (k : Known). AreOfTree levels k.txns) known (by result)
+-- ---- later
+
+pub later_none : (now : RecorderView) → IsLater now now
+later_none now = record { tree = refl; told = ([], sym (append-nil now.told)) }
+
+pub later_by : (old new : RecorderView) (more : List Exchange) → new.journals.levels ≡ old.journals.levels → new.told ≡ old.told ++ more → IsLater old new
+later_by old new more tree grown = record { tree = tree; told = (more, grown) }
+
+pub later_asked : {A : Type 0} (line : Dialogue A) (old new : RecorderView) (end : Option A) → new.journals.levels ≡ old.journals.levels → Follows line old.told new.told end → IsLater old new
+later_asked line old new end tree follows = record { tree = tree; told = grown_along line old.told new.told end follows }
+
+pub later_on : (old mid new : RecorderView) → IsLater old mid → IsLater mid new → IsLater old new
+later_on old mid new first rest = record {
+  tree = rest.tree ∙ first.tree;
+  told = (first.told.0 ++ rest.told.0, further old.told mid.told new.told first.told.0 rest.told.0 first.told.1 rest.told.1);
+}
+
+-- what is kept is kept still, while others are asked
+pub kept_on : (old new : RecorderView) (txn : Txn) → IsLater old new → IsKept old txn → IsKept new txn
+kept_on old new txn later is = record { levels = is.levels ∙ sym later.tree; knows = knows_grow old.told new.told later.told txn is.knows }
+
+pub are_kept_on : (old new : RecorderView) (txns : List TxnSlot) → IsLater old new → AreKept old txns → AreKept new txns
+are_kept_on old new txns later each = All-weaker (λ (k : TxnSlot). IsKept old k.txn) (λ (k : TxnSlot). IsKept new k.txn) (λ k is. kept_on old new k.txn later is) txns each
+
+-- what the shell keeps of its recorder
+pub shell_on : (old new : RecorderView) (levels : ℕ) (txns : List TxnSlot) → IsLater old new → (old.journals.levels ≡ levels) × AreKept old txns → (new.journals.levels ≡ levels) × AreKept new txns
+shell_on old new levels txns later is = (later.tree ∙ is.0, are_kept_on old new txns later is.1)
+
+-- a transaction that did nothing yet keeps nothing
+pub kept_new : (now : RecorderView) (txn : OpenView) → txn.levels ≡ now.journals.levels → KeepsOnly [] txn → IsKept now (states.Open txn)
+kept_new now txn tree none = let is = open_fresh now.journals.levels now.told txn tree none in record { levels = is.0; knows = is.1 }
+
+-- one that knows what it knew, and one that may have ended
+pub kept_by : (old new : RecorderView) (before after : Txn) → new.journals.levels ≡ old.journals.levels → levels_of after ≡ levels_of before → (Knows old.told before → Knows new.told after) → IsKept old before → IsKept new after
+kept_by old new before after tree levels knows is = record { levels = levels ∙ is.levels ∙ sym tree; knows = knows is.knows }
+
+pub kept_ending : (old new : RecorderView) (before after : Txn) → new.journals.levels ≡ old.journals.levels → IsEnding before old.told new.told after → IsKept old before → IsKept new after
+kept_ending old new before after tree ending is = kept_by old new before after tree (levels_still before after ending.still) ending.knows is
+
+-- the transaction as it votes is kept as it was
+pub voting_kept : (now : RecorderView) (kept txn : Txn) (state : Closed) (voting : VotingView) (before after : List ℕ) → IsKept now kept → txn ≡ kept → state ≡ closed.Voting voting → IsClosed txn state before after → IsKept now (states.Voting voting)
+voting_kept now kept txn state voting before after is same votes all =
+    (subst (λ (s : Closed). IsClosed txn s before after) votes all).1 now (subst (IsKept now) (sym same) is)
+
+-- one that was begun is kept, beside those before it
+pub begun_kept : (levels : ℕ) (limits : LimitsView) (others : ℕ) (now : RecorderView) (old new : Vec TxnSlot) (result : Result DeskTold LineFault) → levels ≡ now.journals.levels → (begin_end (known_of levels limits others old) result).known ≡ known_of levels limits others new
+    → AreKept now old.items → AreKept now new.items
+begun_kept levels limits others now old new result tree known each = subst (λ (k : Known). AreKept now k.txns) known (by result)
   where
-    by_reply : (reply : DeskReply) → AreOfTree levels (begin_reply (known_of levels limits others old) reply).known.txns
-    by_reply (desk_replies.Txn number) = All-push (λ (k : TxnSlot). levels_of k.txn ≡ levels) old.items (fresh levels limits number) each refl
+    by_reply : (reply : DeskReply) → AreKept now (begin_reply (known_of levels limits others old) reply).known.txns
+    by_reply (desk_replies.Txn number) = All-push (λ (k : TxnSlot). IsKept now k.txn) old.items (fresh levels limits number) each
+        (kept_new now (opening_txn levels limits number) tree (All-nil (IsOpTold number []), All-nil (IsVoteTold number [])))
     by_reply (desk_replies.Refused refusal) = each
     by_reply other = each
 
-    by : (result : Result DeskTold LineFault) → AreOfTree levels (begin_end (known_of levels limits others old) result).known.txns
+    by : (result : Result DeskTold LineFault) → AreKept now (begin_end (known_of levels limits others old) result).known.txns
     by (Ok told) = by_reply told.reply
     by (Err fault) = each
 

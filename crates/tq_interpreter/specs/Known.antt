@@ -6,9 +6,10 @@ use Rattle.tq_shape.specs.Limits.{LimitsView}
 use Rattle.tq_asks.specs.declared.ask.Verdict.{Verdict}
 use Rattle.tq_txn.specs.declared.txn.Txn.{Txn}
 use Rattle.tq_txn.specs.declared.txn.Txn.TheVariants as states
-use Rattle.tq_txn.specs.Told.{levels_of}
+use Rattle.tq_txn.specs.Told.{Grown, Knows, levels_of}
 use Rattle.tq_txn_states.specs.Open as first
 use Rattle.tq_core.specs.World.{item_at}
+use Rattle.tq_interpreter.specs.Recorded.{RecorderView}
 use Rattle.tq_interpreter.specs.declared.txn_slot.TxnSlot.{TxnSlot}
 use Rattle.tq_interpreter.specs.declared.txn_slot.Ending.{Ending}
 
@@ -32,9 +33,19 @@ known_of levels limits others txns = record { levels = levels; limits = limits; 
 abbrev pub known_at : Known → ℕ → Option TxnSlot
 known_at known number = item_at known.txns (number - known.others)
 
--- every transaction is of a tree of that many levels
-abbrev pub AreOfTree : ℕ → List TxnSlot → Type 0
-AreOfTree levels txns = All (λ kept. levels_of kept.txn ≡ levels) txns
+-- what was told before is told still, and the tree is the same
+pub record IsLater (old new : RecorderView) : Type 0 where
+  pub tree : new.journals.levels ≡ old.journals.levels
+  pub told : Grown old.told new.told
+
+-- a transaction of the tree that is asked: each grant and each vote that it keeps was told
+pub record IsKept (now : RecorderView) (txn : Txn) : Type 0 where
+  pub levels : levels_of txn ≡ now.journals.levels
+  pub knows : Knows now.told txn
+
+-- all of them are
+abbrev pub AreKept : RecorderView → List TxnSlot → Type 0
+AreKept now txns = All (λ kept. IsKept now kept.txn) txns
 
 -- a transaction that did nothing yet, and of which no verdict was told
 abbrev pub fresh : ℕ → LimitsView → ℕ → TxnSlot

@@ -1,7 +1,9 @@
 -- A line in a world: the service answers each of its asks, and the next is made as the answers demand. The asks of a
 -- service in their order, and the worlds that they lead through. How far a session is.
 use Rattle.std.specs.Prelude.{ℕ, suc, nat_le, List, [], ◌∷◌, length, Option, Some, None, Ok, Err, if◌then◌else◌, ◌≡◌, ◌++◌}
+use Rattle.std.specs.List.{All}
 use Rattle.std.specs.Option.{option_map}
+use Rattle.tq_shape.specs.Journal.{entry}
 use Rattle.tq_shape.specs.declared.part.Part.{Part}
 use Rattle.tq_shape.specs.declared.part.Part.TheVariants as parts
 use Rattle.tq_shape.specs.declared.fault.AskFault.{AskFault}
@@ -17,11 +19,12 @@ use Rattle.tq_core.specs.declared.answer.Step.{Step}
 use Rattle.tq_core.specs.declared.answer.Step.TheVariants as steps
 use Rattle.tq_core.specs.declared.citation.Citation.{Citation}
 use Rattle.tq_core.specs.Founded.{unfounded_in_node_ask, unfounded_in_desk_ask}
+use Rattle.tq_core.specs.World.{item_at, server_entry}
 use Rattle.tq_core.specs.Steps.{server_journal, node_entry, desk_entry, view_entry, world_after}
 use Rattle.tq_txn.specs.declared.asker.Exchange.{Exchange}
 use Rattle.tq_txn.specs.declared.asker.Exchange.TheVariants as exchanges
 use Rattle.tq_txn.specs.Dialogue.{Told, Dialogue, Ends, AsksNode, AsksDesk, AsksView, unless_memory}
-use base.Stored.{Gv, gnil, gnum, gcons, Coded}
+use base.Stored.{Gv, gnil, gnum, gcons}
 use Rattle.tq_shape.specs.Limits.{LimitsView}
 use Rattle.tq_asks.specs.declared.ask.NodeAsk.TheVariants as asks
 use Rattle.tq_asks.specs.declared.ask.WorkAsk.TheVariants as work
@@ -119,12 +122,19 @@ coded_numbers (gcons a b) = 2 ∷ (coded_numbers a ++ coded_numbers b)
 abbrev pub mark_of : JournalsView → Exchange
 mark_of start = exchanges.Node 0 (asks.Work (work.Lock 0 (coded_numbers (journals_type.the_row.coded.code start)) modes.Shared)) (Err Memory)
 
--- replaying what was told, from where the asks began, leads to these journals
+-- what a server or the desk answered stands in its journal, under its number
+abbrev pub StandsIn : JournalsView → Exchange → Type 0
+StandsIn world (exchanges.Node server ask (Ok told)) = server_entry world server told.number ≡ Some (entry ask told.reply)
+StandsIn world (exchanges.Desk ask (Ok told)) = item_at world.desk told.number ≡ Some (entry ask told.reply)
+StandsIn world exchange = Unit {0}
+
+-- replaying what was told, from where the asks began, leads to these journals, in which the answers stand
 pub record IsReplayed (a : RecorderView) : Type 0 where
   pub start : JournalsView
   pub since : List Exchange
   pub told_is : a.told ≡ mark_of start ∷ since
   pub replays : Replays start since a.journals
+  pub stands : All (StandsIn a.journals) a.told
 
 -- ---- progress
 

@@ -33,10 +33,9 @@ use Rattle.tq_interpreter.specs.declared.server_lines.Phase.{Phase}
 use Rattle.tq_interpreter.specs.declared.server_lines.Phase.TheVariants as duties
 use Rattle.tq_syntax.specs.declared.line.TxnLine.{TxnLine}
 use Rattle.tq_syntax.specs.declared.line.TxnLine.TheVariants as of
-use Rattle.tq_interpreter.specs.Recorded.{run_line, Progress}
-use Rattle.tq_interpreter.specs.Known.{in_state, with_told, ending_in}
+use Rattle.tq_interpreter.specs.Recorded.{run_line, Progress, RecorderView}
+use Rattle.tq_interpreter.specs.Known.{IsKept, in_state, with_told, ending_in}
 use Rattle.tq_text.specs.Print.{printed_line, reading_text, writing_text, applied_text, verdict_text, fault_text, is_memory, txn_fault_text, decided_text, desk_refusal_text}
-use Rattle.tq_txn.specs.Told.{levels_of}
 use Rattle.tq_interpreter.specs.declared.states.Closed.{Closed}
 use Rattle.tq_interpreter.specs.declared.states.Closed.TheVariants as closed
 
@@ -245,5 +244,5 @@ abbrev pub SaysNotVoting : Txn → List ℕ → Type 0
 SaysNotVoting txn said = (kept : TxnSlot) (next : VotingView → asks.Dialogue TxnAnswer) → voting_in kept txn next ≡ txn_said kept said
 
 abbrev pub IsClosed : Txn → Closed → List ℕ → List ℕ → Type 0
-IsClosed txn (closed.Voting old) before after = (after ≡ before) × (levels_of txn ≡ old.txn.levels) × ((kept : TxnSlot) (next : VotingView → asks.Dialogue TxnAnswer) → voting_in kept txn next ≡ next old)
+IsClosed txn (closed.Voting old) before after = (after ≡ before) × ((now : RecorderView) → IsKept now txn → IsKept now (states.Voting old)) × ((kept : TxnSlot) (next : VotingView → asks.Dialogue TxnAnswer) → voting_in kept txn next ≡ next old)
 IsClosed txn (closed.Said back) before after = (said : List ℕ) × (after ≡ before ++ printed_line said) × (back ≡ txn) × SaysNotVoting txn said

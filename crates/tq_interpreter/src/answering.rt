@@ -1,6 +1,6 @@
 //! The lines of a transaction, by what they ask for.
 ghost use Rattle.std.specs.Prelude.{◌≡◌, IfOk, OnOk, OnErr};
-ghost use Rattle.tq_txn.specs.Told.{levels_of};
+ghost use Rattle.tq_interpreter.specs.Known.{IsKept, IsLater};
 ghost use Rattle.tq_interpreter.specs.TxnAsked as spec;
 ghost use Rattle.tq_text.specs.Print.{Extends};
 ghost use Rattle.tq_interpreter.specs.Recorded.{progress_of};
@@ -25,12 +25,12 @@ pub(crate) fn answer_txn(
     line: TxnLine,
     text: &mut Vec<u8>,
 ) -> Result<(), Memory>
-    requires txn { levels_of kept.old.txn ≡ recorder.old.journals.levels }
+    requires txn { IsKept recorder.old kept.old.txn }
     requires levels { levels ≡ recorder.old.journals.levels }
     ensures answered { OnOk result (spec.IsAnswered (spec.line_asked levels line number kept.old)
         (progress_of recorder.old text.old) (progress_of recorder.new text.new) kept.new) }
-    ensures levels { levels_of kept.new.txn ≡ levels_of kept.old.txn }
-    ensures tree { recorder.new.journals.levels ≡ recorder.old.journals.levels }
+    ensures txn { IsKept recorder.new kept.new.txn }
+    ensures later { IsLater recorder.old recorder.new }
     ensures kept { OnErr result (Extends text.old.items text.new.items) }
 {
     match line {

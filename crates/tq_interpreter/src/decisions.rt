@@ -1,7 +1,7 @@
 //! The lines of a transaction that bring its desk to a decision.
 ghost use Rattle.std.specs.Prelude.{◌≡◌, ◌++◌, false, IfOk, OnOk, OnErr};
 ghost use Rattle.tq_coterie.specs.Coterie.{numbers_of};
-ghost use Rattle.tq_txn.specs.Told.{levels_of};
+ghost use Rattle.tq_interpreter.specs.Known.{IsKept, IsLater};
 ghost use Rattle.tq_interpreter.specs.TxnAsked as spec;
 ghost use Rattle.tq_text.specs.Print.{Extends, printed_line, Prints};
 ghost use Rattle.tq_interpreter.specs.Recorded.{progress_of};
@@ -32,12 +32,12 @@ pub(crate) fn decide_txn(
     course: CommitScope,
     text: &mut Vec<u8>,
 ) -> Result<(), Memory>
-    requires { levels_of kept.old.txn ≡ recorder.old.journals.levels }
+    requires { IsKept recorder.old kept.old.txn }
     ensures answered { OnOk result (spec.IsAnswered
         (spec.decision_asked (spec.course_line course) 0 kept.old)
         (progress_of recorder.old text.old) (progress_of recorder.new text.new) kept.new) }
-    ensures levels { levels_of kept.new.txn ≡ levels_of kept.old.txn }
-    ensures tree { recorder.new.journals.levels ≡ recorder.old.journals.levels }
+    ensures txn { IsKept recorder.new kept.new.txn }
+    ensures later { IsLater recorder.old recorder.new }
     ensures kept { OnErr result (Extends text.old.items text.new.items) }
 {
     let vacant = stand_in(alloc, &kept.txn);

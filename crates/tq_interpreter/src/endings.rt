@@ -1,6 +1,6 @@
 //! The lines of a transaction that abort it and that ask how it ended.
 ghost use Rattle.std.specs.Prelude.{◌≡◌, ◌++◌, [], false, codes, IfOk, OnOk, OnErr};
-ghost use Rattle.tq_txn.specs.Told.{levels_of};
+ghost use Rattle.tq_interpreter.specs.Known.{IsKept, IsLater};
 ghost use Rattle.tq_interpreter.specs.TxnAsked as spec;
 ghost use Rattle.tq_text.specs.Print.{Extends, printed_line, Prints};
 ghost use Rattle.tq_interpreter.specs.Recorded.{progress_of};
@@ -22,11 +22,11 @@ pub(crate) fn abort_txn(
     kept: &mut TxnSlot,
     text: &mut Vec<u8>,
 ) -> Result<(), Memory>
-    requires { levels_of kept.old.txn ≡ recorder.old.journals.levels }
+    requires { IsKept recorder.old kept.old.txn }
     ensures answered { OnOk result (spec.IsAnswered (spec.abort_asked 0 kept.old)
         (progress_of recorder.old text.old) (progress_of recorder.new text.new) kept.new) }
-    ensures levels { levels_of kept.new.txn ≡ levels_of kept.old.txn }
-    ensures tree { recorder.new.journals.levels ≡ recorder.old.journals.levels }
+    ensures txn { IsKept recorder.new kept.new.txn }
+    ensures later { IsLater recorder.old recorder.new }
     ensures kept { OnErr result (Extends text.old.items text.new.items) }
 {
     let vacant = stand_in(alloc, &kept.txn);
@@ -61,10 +61,11 @@ pub(crate) fn resolve(
     kept: &mut TxnSlot,
     text: &mut Vec<u8>,
 ) -> Result<(), Memory>
+    requires { IsKept recorder.old kept.old.txn }
     ensures answered { OnOk result (spec.IsAnswered (spec.resolve_asked number kept.old)
         (progress_of recorder.old text.old) (progress_of recorder.new text.new) kept.new) }
-    ensures levels { levels_of kept.new.txn ≡ levels_of kept.old.txn }
-    ensures tree { recorder.new.journals.levels ≡ recorder.old.journals.levels }
+    ensures txn { IsKept recorder.new kept.new.txn }
+    ensures later { IsLater recorder.old recorder.new }
     ensures kept { OnErr result (Extends text.old.items text.new.items) }
 {
     recorder.show_replayed();

@@ -1,8 +1,7 @@
 //! The lines of a transaction that read and write.
 ghost use Rattle.std.specs.Prelude.{◌≡◌, ◌++◌, [], false, IfOk, OnOk, OnErr};
-ghost use Rattle.tq_txn.specs.Told.{levels_of};
 ghost use Rattle.tq_txn.specs.declared.txn.Txn.TheVariants as states;
-ghost use Rattle.tq_interpreter.specs.Known.{in_state};
+ghost use Rattle.tq_interpreter.specs.Known.{IsKept, IsLater, in_state};
 ghost use Rattle.tq_interpreter.specs.TxnAsked as spec;
 ghost use Rattle.tq_text.specs.Print.{Extends, printed_line, Prints};
 ghost use Rattle.tq_interpreter.specs.Recorded.{progress_of};
@@ -33,12 +32,12 @@ pub(crate) fn operate(
     operation: Operation,
     text: &mut Vec<u8>,
 ) -> Result<(), Memory>
-    requires { levels_of kept.old.txn ≡ recorder.old.journals.levels }
+    requires { IsKept recorder.old kept.old.txn }
     ensures answered { OnOk result (spec.IsAnswered
         (spec.operation_asked operation file.now number kept.old)
         (progress_of recorder.old text.old) (progress_of recorder.new text.new) kept.new) }
-    ensures levels { levels_of kept.new.txn ≡ levels_of kept.old.txn }
-    ensures tree { recorder.new.journals.levels ≡ recorder.old.journals.levels }
+    ensures txn { IsKept recorder.new kept.new.txn }
+    ensures later { IsLater recorder.old recorder.new }
     ensures kept { OnErr result (Extends text.old.items text.new.items) }
 {
     match &mut kept.txn {
@@ -57,13 +56,13 @@ fn operate_open(
     operation: Operation,
     text: &mut Vec<u8>,
 ) -> Result<(), Memory>
-    requires { «open».old.levels ≡ recorder.old.journals.levels }
+    requires { IsKept recorder.old (states.Open «open».old) }
     ensures answered { OnOk result ((kept : TxnSlot) →
         spec.IsAnswered (spec.operation_open operation file.now kept «open».old)
         (progress_of recorder.old text.old) (progress_of recorder.new text.new)
         (in_state kept (states.Open «open».new))) }
-    ensures levels { «open».new.levels ≡ «open».old.levels }
-    ensures tree { recorder.new.journals.levels ≡ recorder.old.journals.levels }
+    ensures txn { IsKept recorder.new (states.Open «open».new) }
+    ensures later { IsLater recorder.old recorder.new }
     ensures kept { OnErr result (Extends text.old.items text.new.items) }
 {
     recorder.show_replayed();

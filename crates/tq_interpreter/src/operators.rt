@@ -7,6 +7,7 @@ ghost use Rattle.tq_core.specs.declared.answer.Step.TheVariants as steps;
 ghost use Rattle.tq_refresh.specs.Plan.{answer_in, is_refreshed, mends_asked, ArePlanned, IsPlanned, jobs_in, jobs_of_plan, peek_of};
 ghost use Rattle.tq_refresh.specs.declared.job.Job.{Job};
 ghost use Rattle.tq_txn.specs.Dialogue.{fault_of_ask};
+ghost use Rattle.tq_interpreter.specs.Known.{IsLater};
 ghost use Rattle.tq_interpreter.specs.Recorded.{node_told, run_line};
 ghost use Rattle.tq_interpreter.specs.Answer as spec;
 ghost use Rattle.tq_text.specs.Print.{Extends, printed_line, Appends, Prints, is_memory};
@@ -64,7 +65,7 @@ pub(crate) fn refresh_all(
         (Appends text.old text.new (spec.refresh_run recorder.old.journals).end) }
     ensures after { OnOk result
         (recorder.new.journals ≡ (spec.refresh_run recorder.old.journals).after) }
-    ensures tree { recorder.new.journals.levels ≡ recorder.old.journals.levels }
+    ensures later { IsLater recorder.old recorder.new }
     ensures kept { OnErr result (Extends text.old.items text.new.items) }
 {
     let plan = current_plan(recorder.service(), alloc)?;
@@ -84,6 +85,7 @@ fn current_plan(service: &Service, alloc: Global) -> Result<PlanByFile, Memory>
 
 /// Does the jobs one after another: a line for each goes behind the text, and how many there were, and how many copies
 /// were mended, is answered.
+#[tactic(auto, using(tq_text::proofs::Extended::extends_more))]
 fn mend_all(
     recorder: &mut Recorder,
     alloc: Global,
@@ -98,7 +100,7 @@ fn mend_all(
     ensures jobs { IfOk result (λ counts. counts.jobs ≡ length (jobs_of_plan plan.now)) }
     ensures after { OnOk result
         (recorder.new.journals ≡ (spec.plan_run recorder.old text.old plan.now).after) }
-    ensures tree { recorder.new.journals.levels ≡ recorder.old.journals.levels }
+    ensures later { IsLater recorder.old recorder.new }
     ensures kept { Extends text.old.items text.new.items }
 {
     let mut counts = Counts { jobs: 0, mended: 0 };
@@ -128,7 +130,7 @@ fn mend_file(
     ensures jobs { OnOk result
         (counts.new.jobs ≡ counts.old.jobs + length (jobs_in up.now of_file.now)) }
     ensures fits { OnOk result (spec.IsCounted counts.new text.new) }
-    ensures tree { recorder.new.journals.levels ≡ recorder.old.journals.levels }
+    ensures later { IsLater recorder.old recorder.new }
     ensures kept { Extends text.old.items text.new.items }
 {
     let peek = of_file.peek_ask(alloc)?;
@@ -159,7 +161,7 @@ fn mend(recorder: &mut Recorder, alloc: Global, job: &Job, peek: NodeAsk) -> Res
         refreshed ≡ (run_line recorder.old.journals (mends_asked job.now)).end) }
     ensures after { OnOk result
         (recorder.new.journals ≡ (run_line recorder.old.journals (mends_asked job.now)).after) }
-    ensures tree { recorder.new.journals.levels ≡ recorder.old.journals.levels }
+    ensures later { IsLater recorder.old recorder.new }
 {
     let Some(told) = answer_of(recorder, alloc, job.source, peek)? else {
         return Ok(false);
@@ -187,7 +189,7 @@ fn answer_of(
         ≡ answer_in (node_told recorder.old.journals server.number ask)) }
     ensures after { OnOk result (recorder.new.journals
         ≡ world_after recorder.old.journals (steps.Node server.number ask)) }
-    ensures tree { recorder.new.journals.levels ≡ recorder.old.journals.levels }
+    ensures later { IsLater recorder.old recorder.new }
 {
     recorder.show_replayed();
     let result = recorder.put(alloc, server, ask);

@@ -9,8 +9,8 @@ use crate::told::{
 use std::alloc::Global;
 use std::marker::Model;
 use tq_asks::{NodeAsk, NodeReply};
-use tq_core::Service;
-use tq_desk::{ByProof, DeskAsk};
+use tq_core::{Service, Warrant};
+use tq_desk::{ByProof, ByRules, DeskAsk};
 use tq_live::ViewAsk;
 use tq_shape::{Answered, Levels, Limits, Memory, ServerId};
 use tq_txn::{AskFault, Asker, DeskTold, Exchange, NodeTold, ViewTold};
@@ -36,6 +36,7 @@ impl Model for Recorder {
 impl Recorder {
     ghost use Rattle.std.specs.Prelude.{◌≡◌, ◌++◌, [], IfOk};
     ghost use Rattle.tq_core.specs.World.{empty_world};
+    ghost use Rattle.tq_txn.specs.Dialogue.{node_exchange};
     ghost use Rattle.tq_interpreter.specs.Recorded.{full_limits, told_exchanges, IsReplayed};
     ghost use Rattle.tq_txn.specs.declared.asker.Exchange.TheVariants as exchanges;
 
@@ -76,9 +77,51 @@ impl Recorder {
     {
         let number = server.number();
         let given = handed_ask(&ask);
-        let answer = self.service.ask_node(alloc, server, ask);
+        let answer = self.service.ask_node::<ByRules>(alloc, server, ask);
         self.told = with_handed(&self.told, number, &given, &answer);
         answer
+    }
+
+    /// Asks the server, and keeps a copy of the ask; `J` finds the entry that it cites.
+    #[inline(always)]
+    fn ask<J: Warrant>(
+        &mut self,
+        alloc: Global,
+        server: ServerId,
+        ask: NodeAsk,
+    ) -> Result<NodeTold, AskFault>
+        requires of_tree { server.levels ≡ self.old.journals.levels }
+        requires founded { J.founds_node self.old.journals ask }
+        ensures exchanges { self.new.told ≡ self.old.told
+            ++ node_exchange server.number ask result }
+        ensures same { IfOk result (λ t. (t.server ≡ server.number) × (t.ask ≡ ask)) }
+        ensures tree { self.new.journals.levels ≡ self.old.journals.levels }
+    {
+        let number = server.number();
+        let copy = match copy_of_node_ask(&ask) {
+            Ok(copy) => copy,
+            Err(_) => return Err(AskFault::Memory),
+        };
+        match self.service.ask_node::<J>(alloc, server, ask) {
+            Ok(told) => {
+                // Taken apart and built anew: moved whole, the reply is copied once more.
+                let Answered {
+                    number: entry,
+                    reply,
+                } = told;
+                self.told = with_answer(&self.told, number, &copy, entry, &reply);
+                Ok(NodeTold {
+                    server: number,
+                    number: entry,
+                    ask: copy,
+                    reply,
+                })
+            }
+            Err(fault) => {
+                self.told = with_fault(&self.told, number, copy, &fault);
+                Err(fault)
+            }
+        }
     }
 
     /// What was told, replayed from empty journals, leads to these: this does nothing, and says so.
@@ -106,6 +149,8 @@ impl Asker for Recorder {
     ghost use Rattle.std.specs.Prelude.{◌≡◌, ◌++◌, IfOk};
     ghost use Rattle.tq_desk.specs.DeskStep.{HasGoodEvidence};
     ghost use Rattle.tq_txn.specs.Dialogue.{node_exchange, desk_exchange, view_exchange};
+    ghost use Rattle.tq_txn.specs.Told.{IsVerdictTold, answers_in};
+    ghost use Rattle.tq_txn_states.specs.Voting.{CitesOnly};
 
     ghost told = { λ a. a.told };
 
@@ -119,35 +164,25 @@ impl Asker for Recorder {
         ensures same { IfOk result (λ t. (t.server ≡ server.number) × (t.ask ≡ ask)) }
         ensures tree { self.new.journals.levels ≡ self.old.journals.levels }
     {
-        let number = server.number();
-        let copy = match copy_of_node_ask(&ask) {
-            Ok(copy) => copy,
-            Err(_) => return Err(AskFault::Memory),
-        };
-        match self.service.ask_node(alloc, server, ask) {
-            Ok(told) => {
-                // Taken apart and built anew: moved whole, the reply is copied once more.
-                let Answered {
-                    number: entry,
-                    reply,
-                } = told;
-                self.told = with_answer(&self.told, number, &copy, entry, &reply);
-                Ok(NodeTold {
-                    server: number,
-                    number: entry,
-                    ask: copy,
-                    reply,
-                })
-            }
-            Err(fault) => {
-                self.told = with_fault(&self.told, number, copy, &fault);
-                Err(fault)
-            }
-        }
+        self.ask::<ByRules>(alloc, server, ask)
+    }
+
+    #[inline(always)]
+    fn tell(&mut self, alloc: Global, server: ServerId, ask: NodeAsk) -> Result<NodeTold, AskFault>
+        requires of_tree { server.levels ≡ self.old.journals.levels }
+        requires verdict { IsVerdictTold self.old.told ask }
+        ensures exchanges { self.new.told ≡ self.old.told
+            ++ node_exchange server.number ask result }
+        ensures same { IfOk result (λ t. (t.server ≡ server.number) × (t.ask ≡ ask)) }
+        ensures tree { self.new.journals.levels ≡ self.old.journals.levels }
+    {
+        self.show_replayed();
+        self.ask::<ByProof>(alloc, server, ask)
     }
 
     fn desk(&mut self, alloc: Global, ask: DeskAsk) -> Result<DeskTold, AskFault>
-        requires { HasGoodEvidence self.old.journals.levels ask }
+        requires evidence { HasGoodEvidence self.old.journals.levels ask }
+        requires founded { CitesOnly (answers_in self.old.told) ask }
         ensures exchanges { self.new.told ≡ self.old.told ++ desk_exchange ask result }
         ensures same { IfOk result (λ t. t.ask ≡ ask) }
         ensures tree { self.new.journals.levels ≡ self.old.journals.levels }

@@ -1,9 +1,8 @@
 //! The lines of a transaction at one of the servers: its vote, and the verdict that it is told.
 ghost use Rattle.std.specs.Prelude.{◌≡◌, ◌++◌, ◌∷◌, [], false, cond, Some, None, codes, IfOk, OnOk, OnErr};
 ghost use Rattle.std.specs.Fmt.{decimal};
-ghost use Rattle.tq_txn.specs.Told.{levels_of};
 ghost use Rattle.tq_interpreter.specs.TxnAsked as spec;
-ghost use Rattle.tq_interpreter.specs.Known.{in_state};
+ghost use Rattle.tq_interpreter.specs.Known.{IsKept, IsLater, in_state};
 ghost use Rattle.tq_text.specs.Print.{Extends, printed_line, applied_text, Prints};
 ghost use Rattle.tq_interpreter.specs.Recorded.{progress_of};
 
@@ -62,6 +61,7 @@ impl ServerLine {
 }
 
 /// Does an errand, if its server is one of the tree.
+#[tactic(auto, using(crate::proofs::ShellLines::kept_on))]
 pub(crate) fn run_at_server(
     recorder: &mut Recorder,
     alloc: Global,
@@ -71,13 +71,13 @@ pub(crate) fn run_at_server(
     errand: ServerLine,
     text: &mut Vec<u8>,
 ) -> Result<(), Memory>
-    requires txn { levels_of kept.old.txn ≡ recorder.old.journals.levels }
+    requires txn { IsKept recorder.old kept.old.txn }
     requires levels { levels ≡ recorder.old.journals.levels }
     ensures answered { OnOk result (spec.IsAnswered
         (spec.errand_asked levels errand number kept.old)
         (progress_of recorder.old text.old) (progress_of recorder.new text.new) kept.new) }
-    ensures levels { levels_of kept.new.txn ≡ levels_of kept.old.txn }
-    ensures tree { recorder.new.journals.levels ≡ recorder.old.journals.levels }
+    ensures txn { IsKept recorder.new kept.new.txn }
+    ensures later { IsLater recorder.old recorder.new }
     ensures kept { OnErr result (Extends text.old.items text.new.items) }
 {
     let ServerLine { server, duty, stop } = errand;
@@ -99,13 +99,13 @@ fn prepare(
     stop: Option<u32>,
     text: &mut Vec<u8>,
 ) -> Result<(), Memory>
-    requires txn { levels_of kept.old.txn ≡ recorder.old.journals.levels }
+    requires txn { IsKept recorder.old kept.old.txn }
     requires server { server.levels ≡ recorder.old.journals.levels }
     ensures answered { OnOk result (spec.IsAnswered
         (spec.prepare_asked stop server.number 0 kept.old)
         (progress_of recorder.old text.old) (progress_of recorder.new text.new) kept.new) }
-    ensures levels { levels_of kept.new.txn ≡ levels_of kept.old.txn }
-    ensures tree { recorder.new.journals.levels ≡ recorder.old.journals.levels }
+    ensures txn { IsKept recorder.new kept.new.txn }
+    ensures later { IsLater recorder.old recorder.new }
     ensures kept { OnErr result (Extends text.old.items text.new.items) }
 {
     let vacant = stand_in(alloc, &kept.txn);
@@ -126,13 +126,14 @@ fn vote(
     stop: Option<u32>,
     text: &mut Vec<u8>,
 ) -> Result<Txn, Memory>
-    requires { server.levels ≡ recorder.old.journals.levels }
+    requires txn { IsKept recorder.old (Txn.Voting voting) }
+    requires server { server.levels ≡ recorder.old.journals.levels }
     ensures answered { IfOk result (λ txn. (kept : TxnSlot) →
         spec.IsAnswered (spec.prepare_voting stop server.number kept voting)
         (progress_of recorder.old text.old) (progress_of recorder.new text.new)
         (in_state kept txn)) }
-    ensures levels { IfOk result (λ txn. levels_of txn ≡ voting.txn.levels) }
-    ensures tree { recorder.new.journals.levels ≡ recorder.old.journals.levels }
+    ensures txn { IfOk result (IsKept recorder.new) }
+    ensures later { IsLater recorder.old recorder.new }
     ensures kept { OnErr result (Extends text.old.items text.new.items) }
 {
     let number = server.number();
@@ -187,7 +188,7 @@ fn apply(
     ensures answered { OnOk result (spec.IsAnswered
         (spec.apply_asked stop server.number number kept.now)
         (progress_of recorder.old text.old) (progress_of recorder.new text.new) kept.now) }
-    ensures tree { recorder.new.journals.levels ≡ recorder.old.journals.levels }
+    ensures later { IsLater recorder.old recorder.new }
     ensures kept { OnErr result (Extends text.old.items text.new.items) }
 {
     match ending_of(kept)? {
@@ -210,7 +211,7 @@ fn tell(
     ensures answered { OnOk result ((kept : TxnSlot) →
         spec.IsAnswered (spec.apply_ending stop server.number number kept ending)
         (progress_of recorder.old text.old) (progress_of recorder.new text.new) kept) }
-    ensures tree { recorder.new.journals.levels ≡ recorder.old.journals.levels }
+    ensures later { IsLater recorder.old recorder.new }
     ensures kept { OnErr result (Extends text.old.items text.new.items) }
 {
     let txn = number;

@@ -2,7 +2,6 @@
 
 ghost use Rattle.std.specs.Prelude.{◌≡◌, ◌++◌, ◌<◌, ◌+◌, ℕ, [], false, length, None, IfOk, OnOk, OnErr, IfSome, IsNone, vec_len, vec_capacity};
 ghost use Rattle.tq_txn.specs.Dialogue.{line_result};
-ghost use Rattle.tq_txn.specs.Told.{levels_of};
 ghost use Rattle.std.specs.Fmt.{decimal};
 ghost use Rattle.tq_interpreter.specs.Answer as asked;
 ghost use Rattle.tq_interpreter.specs.Known as known;
@@ -37,7 +36,7 @@ pub struct Shell {
 impl Model for Shell {
     ghost use Rattle.std.specs.Prelude.{◌≡◌};
     ghost use Rattle.tq_interpreter.specs.Answer.{World};
-    ghost use Rattle.tq_interpreter.specs.Known.{AreOfTree};
+    ghost use Rattle.tq_interpreter.specs.Known.{AreKept};
 
     ghost Value = { World };
 
@@ -52,7 +51,7 @@ impl Model for Shell {
     } };
 
     ghost invariant = { λ shell.
-        (shell.recorder.journals.levels ≡ shell.levels) × AreOfTree shell.levels shell.txns.items };
+        (shell.recorder.journals.levels ≡ shell.levels) × AreKept shell.recorder shell.txns.items };
 }
 
 impl Shell {

@@ -2,7 +2,8 @@
 ghost use Rattle.std.specs.Prelude.{◌≡◌, ◌++◌, OnOk, OnErr, IfOk};
 ghost use Rattle.std.specs.Option.{option_map};
 ghost use Rattle.tq_text.specs.Print.{Extends, printed_line, Prints, decided_text};
-ghost use Rattle.tq_interpreter.specs.Known.{ending_in};
+ghost use Rattle.tq_interpreter.specs.Known.{IsKept, ending_in};
+ghost use Rattle.tq_interpreter.specs.Recorded.{RecorderView};
 ghost use Rattle.tq_txn.specs.Told.{levels_of};
 ghost use Rattle.tq_interpreter.specs.TxnAsked as spec;
 
@@ -32,7 +33,7 @@ pub(crate) fn say_decided(text: &mut Vec<u8>, verdict: &Verdict) -> Result<(), M
 
 /// A transaction that stands in for one that is taken out, until that is put back.
 pub(crate) fn stand_in(alloc: Global, txn: &Txn) -> Txn
-    ensures { levels_of result ≡ levels_of txn.now }
+    ensures { (now : RecorderView) → levels_of txn.now ≡ now.journals.levels → IsKept now result }
 {
     Txn::Open(Open::new(alloc, txn.levels(), Limits::full(), 0))
 }

@@ -64,9 +64,6 @@ solid x h =
     no_space (x == 34) (x == 92) (is_operator x) (is_space x)
     (λ i. ne_eqb x 32 (λ z. omega arith) i || ne_eqb x 9 (λ z. omega arith) i || ne_eqb x 10 (λ z. omega arith) i || ne_eqb x 13 (λ z. omega arith) i)
 
-pub at_lexeme : (t : List ℕ) → is_space (head t) ≡ false → IsAtLexeme t
-at_lexeme t h blank = absurd (true≢false (sym blank ∙ no_space (head t == 34) (head t == 92) (is_operator (head t)) (is_space (head t)) h))
-
 or_last : (P : ℕ → Type 0) (x c : ℕ) (b : Bool) → P c → (b ≡ true → P x) → (b ≡ true) ⊎ ((x == c) ≡ true) → P x
 or_last P x c b p f (inl e) = f e
 or_last P x c b p f (inr e) = subst P (sym (eqb-true x c e)) p

@@ -188,7 +188,10 @@ impl<'a, T: FromReader<'a>> FromReader<'a> for SharedSeq<T> {
         let Some(list) = take_list(alloc, plan, None, reader, depth)? else {
             return Ok(None);
         };
-        Ok(Some(SharedSeq::from_vec(list.into_vec())?))
+        match SharedSeq::from_vec(list.into_vec()) {
+            Ok(list) => Ok(Some(list)),
+            Err(_refused) => Err(NotRead::Memory),
+        }
     }
 }
 

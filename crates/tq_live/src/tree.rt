@@ -1,6 +1,6 @@
 //! The tree: costs, marks, the least quorums and blockers.
 
-ghost use Rattle.std.specs.Prelude.{◌≡◌, ℕ, ◌+◌, ◌-◌, ◌*◌, ◌^◌, ◌<◌, ◌≤◌, ◌↔◌, IsOk, IfOk, IfSome, IsSome, OnOk, OnErr, slice_set, true, is_some, replicate, Some, [], List, All, Contains};
+ghost use Rattle.std.specs.Prelude.{◌≡◌, ◌+◌, ◌-◌, ◌^◌, ◌<◌, ◌↔◌, IsOk, IfOk, IsSome, OnOk, OnErr, true, is_some, Some, [], Contains};
 ghost use Rattle.std.specs.Bool.{OnTrue, OnFalse};
 ghost use Rattle.tq_shape.specs.Tree.{depth_of};
 ghost use Rattle.tq_coterie.specs.Coterie.{coterie, is_same};
@@ -45,10 +45,9 @@ impl Model for LiveTree {
 }
 
 impl LiveTree {
-    ghost use Rattle.std.specs.Prelude.{◌≡◌, ℕ, ◌+◌, ◌-◌, ◌*◌, ◌^◌, ◌<◌, ◌≤◌, ◌↔◌, IsOk, IfOk, IfSome, IsSome, OnOk, OnErr, slice_set, true, is_some, replicate, Some, [], List, All};
+    ghost use Rattle.std.specs.Prelude.{◌≡◌, ◌+◌, ◌-◌, ◌^◌, ◌<◌, ◌↔◌, IsOk, IfOk, IsSome, OnOk, OnErr, true, is_some, Some, []};
     ghost use Rattle.std.specs.Bool.{OnTrue, OnFalse};
     ghost use Rattle.tq_shape.specs.Tree.{depth_of};
-    ghost use Rattle.tq_coterie.specs.Coterie.{IsMemberList};
     ghost use Rattle.tq_live.specs.Live.{best, best_cost, blocker, costs_of, is_up, members_up, HasQuorumOrBlocker, HasQuorumOrBlockerUnder, new_live, with_both_costs, with_costs, with_mark, IsChoice, IsFirstChoice, IsBestOf, IsFirstOf};
     ghost use Rattle.tq_live.specs.Least.{IsFound, AreServersOf};
     ghost use Rattle.tq_live.specs.Kept.{IsAt, changed_live, costs_after, found_set};

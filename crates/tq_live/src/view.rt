@@ -1,6 +1,6 @@
 //! The view, its asks and its replies, and what an ask changes in it.
 
-ghost use Rattle.std.specs.Prelude.{◌≡◌, ◌++◌, ◌∷◌, [], List, ℕ, IfOk, OnOk, OnErr};
+ghost use Rattle.std.specs.Prelude.{◌≡◌, [], IfOk, OnOk, OnErr};
 
 use crate::choice::Choice;
 use crate::costs::{Costs, are_costs};
@@ -99,8 +99,7 @@ impl Model for View {
 }
 
 impl View {
-    ghost use Rattle.std.specs.Prelude.{◌≡◌, ◌++◌, ◌∷◌, [], List, ℕ, IfOk, OnOk, OnErr};
-    ghost use Rattle.tq_shape.specs.declared.part.Entry.{Entry};
+    ghost use Rattle.std.specs.Prelude.{◌≡◌, [], IfOk, OnOk, OnErr};
     ghost use Rattle.tq_live.specs.Live.{HasQuorumOrBlocker};
     ghost use Rattle.tq_live.specs.View.{view_reply, view_after, view_state, GoesWithJournal, IsFirstReply, ReplaysJournals};
     ghost use Rattle.tq_live.specs.ViewLaws.{view_change, view_changed, ViewFits};

@@ -1,14 +1,11 @@
 //! The entries of a table in a slab, with the keys of each file and of each transaction.
-ghost use Rattle.std.specs.Prelude.{◌≡◌, ◌+◌, ◌-◌, ◌<◌, ◌≤◌, ℕ, List, [], ◌∷◌, None, Some, IsSome, IfSome, IfNone, IfOk, OnErr, length, nat_eq};
+ghost use Rattle.std.specs.Prelude.{◌≡◌, ◌+◌, ◌-◌, ◌<◌, ◌≤◌, ℕ, List, None, Some, IfOk, OnErr, length};
 ghost use Rattle.std.specs.FinMap as fin;
 ghost use Rattle.std.specs.Option.{option_copied};
 ghost use Rattle.std.specs.Result.{result_err};
-ghost use Rattle.tq_store.specs.Names.{same_name};
-ghost use Rattle.indexmap.specs.IndexMap.{index_of};
 ghost use Rattle.slab.specs.Slab.{get, slab_len, values, Updates};
-ghost use Rattle.tq_shape.specs.Journal.{state_at};
 ghost use Rattle.tq_locks.specs.Locks.{LockKey, Locks, locks_after_keep, locks_after_release, only_stable, IsAsStable, IsLooseAt, entry_after_steady};
-ghost use Rattle.tq_locks.specs.Keys.{lent_keys, keys_under, place, entries_of};
+ghost use Rattle.tq_locks.specs.Keys.{lent_keys, place, entries_of};
 ghost use Rattle.tq_locks.specs.Kept.{first_blocker};
 
 use crate::index::{

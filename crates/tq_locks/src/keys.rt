@@ -26,7 +26,7 @@ pub(crate) struct Keys {
 }
 
 impl Model for Keys {
-    ghost use Rattle.std.specs.Prelude.{◌≤◌, ◌<◌, ◌*◌, ℕ, suc, length, All};
+    ghost use Rattle.std.specs.Prelude.{ℕ};
     ghost use Rattle.std.specs.Coded.{coded_ℕ};
     ghost use Rattle.smallvec.specs.SmallVec.{SmallVec as Items, small_vec_code, small_vec_len};
     ghost use Rattle.tq_locks.specs.Keys.{keys_of, starts_in, HasBlocks};

@@ -1,5 +1,5 @@
 //! Locks in a slab, which tells those that aren't stable with no walk of the others.
-ghost use Rattle.std.specs.Prelude.{◌≡◌, ◌+◌, ◌<◌, ℕ, List, None, Some, IsSome, IfSome, IfNone, IfOk, OnOk, vec_len, vec_capacity, ◌∷◌, []};
+ghost use Rattle.std.specs.Prelude.{◌≡◌, ◌+◌, ◌<◌, ℕ, None, Some, IfSome, IfNone, IfOk, OnOk, ◌∷◌, []};
 ghost use Rattle.std.specs.Bool.{OnTrue, OnFalse};
 ghost use Rattle.std.specs.Option.{option_copied};
 ghost use Rattle.slab.specs.Slab.{get, entries, slab_len, HasRoomFor, ContainsKey, Updates};

@@ -4,18 +4,15 @@ use Rattle.std.proofs.Common.{◌≡◌, ◌<◌, ◌+◌, ℕ, List, [], ◌∷
 use Rattle.std.proofs.lemmas.List.{append-nil}
 use Rattle.tq_evidence.specs.declared.op.Op.{Op}
 use Rattle.tq_core.specs.declared.citation.Citation.{Citation}
-use Rattle.tq_core.specs.Founded.{cited_grant, is_founded_grant, is_founded_vote, is_founded_copy, is_founded_verdict, is_granted, is_voted, is_peeked, is_ended, cited_vote, unless, unfounded_grant, unfounded_op, unfounded_vote, cited_in_work, unfounded_in_work}
+use Rattle.tq_core.specs.Founded.{cited_grant, is_founded_grant, is_founded_vote, is_founded_copy, is_founded_verdict, is_granted, is_voted, is_peeked, is_ended, cited_vote, unless, unfounded_op, unfounded_vote, cited_in_work, unfounded_in_work}
 use Rattle.tq_tables.proofs.RowLaws.{take-next}
 use Rattle.tq_merge.specs.Placing.{cited_in_ops, cited_in}
-use Rattle.std.specs.Prelude.{not}
-use Rattle.std.specs.List.{find}
 use Rattle.std.specs.Option.{option_map, option_map_or, option_and_then, option_to_list}
-use Rattle.std.proofs.lemmas.Bool.{cond-false}
-use Rattle.tq_shape.specs.Journal.{Has, or_else}
+use Rattle.tq_shape.specs.Journal.{Has}
 use Rattle.tq_shape.specs.declared.part.Part.{Part}
 use Rattle.tq_shape.specs.declared.part.Part.TheVariants as parts
-use Rattle.tq_shape.proofs.Options.{map-none, or_else-none}
-use Rattle.tq_shape.proofs.Places.{none-Has, append-Has, map-Has, Has-append, Has-map}
+use Rattle.tq_shape.proofs.Options.{or_else-none}
+use Rattle.tq_shape.proofs.Places.{append-Has, map-Has, Has-append, Has-map}
 use Rattle.tq_asks.specs.declared.ask.NodeAsk.TheVariants as node_asks
 use Rattle.tq_asks.specs.declared.ask.WorkAsk.{WorkAsk}
 use Rattle.tq_asks.specs.declared.ask.WorkAsk.TheVariants as work
@@ -28,7 +25,7 @@ use Rattle.tq_desk.specs.DeskJournal.{DeskEntry}
 use Rattle.tq_core.specs.declared.answer.Step.{Step}
 use Rattle.tq_core.specs.declared.answer.Step.TheVariants as steps
 use Rattle.tq_core.specs.World.{item_at, server_entry}
-use Rattle.tq_core.proofs.Contents.{tested-is}
+use Rattle.tq_core.proofs.Contents.{tested-is, unless_none, ops-are, votes-are, commit-founded}
 use Rattle.tq_merge.specs.Order.{firsts, unfounded_citation}
 use Rattle.tq_merge.proofs.Places.{first_item, item_first, item_each}
 
@@ -74,25 +71,21 @@ test_stays test o other stays is =
     let found = tested-is test o is in
     ap (λ x. option_map_or test x false) (stays found.0 found.1) ∙ found.2
 
-unless_true : (founded : Bool) (citation : Citation) → unless founded citation ≡ None → founded ≡ true
-unless_true true citation none = refl
-unless_true false citation none = absurd (let some : Path (Option Citation) (Some citation) None = none in cc)
+-- the citations of ops are those of their grants
+ops-cite : (ops : List Op) (op : Op) → Has ops op → (grant : Grant) → Has op.grants grant → Has (cited_in_ops ops) (cited_grant grant)
+ops-cite [] op has grant has_grant = absurd has
+ops-cite (first ∷ ops) op (inl same) grant has_grant =
+    append-Has (map cited_grant first.grants) (cited_in_ops ops) (cited_grant grant)
+    (inl (subst (λ (o : Op). Has (map cited_grant o.grants) (cited_grant grant)) (sym same) (map-Has cited_grant op.grants grant has_grant)))
+ops-cite (first ∷ ops) op (inr has) grant has_grant = append-Has (map cited_grant first.grants) (cited_in_ops ops) (cited_grant grant) (inr (ops-cite ops op has grant has_grant))
 
-both_none : (a b : Option Citation) → a ≡ None → b ≡ None → or_else a b ≡ None
-both_none a b left right = ap (λ o. or_else o b) left ∙ right
-
-all_founded : {A : Type 0} (founded : A → Bool) (xs : List A) → find (λ x. not (founded x)) xs ≡ None → (x : A) → Has xs x → founded x ≡ true
-all_founded founded xs none x has = by (founded x) (none-Has (λ y. not (founded y)) xs none x has)
-  where
-    by : (b : Bool) → (not b ≡ true → ⊥) → b ≡ true
-    by true never = refl
-    by false never = absurd (never refl)
-
-none_found : {A : Type 0} (founded : A → Bool) (xs : List A) → ((x : A) → Has xs x → founded x ≡ true) → find (λ x. not (founded x)) xs ≡ None
-none_found founded [] all = refl
-none_found founded (x ∷ xs) all =
-    cond-false (not (founded x)) (Some x) (find (λ y. not (founded y)) xs) (ap not (all x (inl refl)))
-    ∙ none_found founded xs (λ y has. all y (inr has))
+cited-op : (ops : List Op) (c : Citation) → Has (cited_in_ops ops) c → (op : Op) × Has ops op × (grant : Grant) × Has op.grants grant × (cited_grant grant ≡ c)
+cited-op [] c has = absurd has
+cited-op (op ∷ ops) c has =
+    elim (Has-append (map cited_grant op.grants) (cited_in_ops ops) c has) [
+      | inl here ↦ let from = Has-map cited_grant op.grants c here in (op, inl refl, from.0, from.1, from.2)
+      | inr there ↦ let from = cited-op ops c there in (from.0, inr from.1, from.2, from.3, from.4)
+    ]
 
 -- ---- a step is founded in another world in which the entries stand that it cites
 
@@ -103,38 +96,15 @@ module _ (world other : JournalsView) where
   vote_stays : (txn : ℕ) (vote : Vote) → Stays world other (cited_vote vote) → is_founded_vote world txn vote ≡ true → is_founded_vote other txn vote ≡ true
   vote_stays txn vote stays is = test_stays (λ (e : NodeEntry). is_voted txn vote e.ask e.reply) (server_entry world vote.server vote.number) (server_entry other vote.server vote.number) stays is
 
-  grants_stay : (txn : ℕ) (file : List ℕ) (grants : List Grant) → ((c : Citation) → Has (map cited_grant grants) c → Stays world other c)
-      → unfounded_grant world txn file grants ≡ None → unfounded_grant other txn file grants ≡ None
-  grants_stay txn file grants stay none =
-      let clean = map-none cited_grant (find (λ (g : Grant). not (is_founded_grant world txn file g)) grants) none in
-      ap (option_map cited_grant)
-      (none_found (is_founded_grant other txn file) grants
-      (λ g has. grant_stays txn file g (stay (cited_grant g) (map-Has cited_grant grants g has)) (all_founded (is_founded_grant world txn file) grants clean g has)))
-
-  ops_stay : (txn : ℕ) (ops : List Op) → ((c : Citation) → Has (cited_in_ops ops) c → Stays world other c) → unfounded_op world txn ops ≡ None → unfounded_op other txn ops ≡ None
-  ops_stay txn [] stay none = refl
-  ops_stay txn (op ∷ ops) stay none =
-      let both = or_else-none (unfounded_grant world txn op.file op.grants) (unfounded_op world txn ops) none in
-      both_none (unfounded_grant other txn op.file op.grants) (unfounded_op other txn ops)
-      (grants_stay txn op.file op.grants (λ c has. stay c (append-Has (map cited_grant op.grants) (cited_in_ops ops) c (inl has))) both.0)
-      (ops_stay txn ops (λ c has. stay c (append-Has (map cited_grant op.grants) (cited_in_ops ops) c (inr has))) both.1)
-
-  votes_stay : (txn : ℕ) (votes : List Vote) → ((c : Citation) → Has (map cited_vote votes) c → Stays world other c) → unfounded_vote world txn votes ≡ None → unfounded_vote other txn votes ≡ None
-  votes_stay txn votes stay none =
-      let clean = map-none cited_vote (find (λ (v : Vote). not (is_founded_vote world txn v)) votes) none in
-      ap (option_map cited_vote)
-      (none_found (is_founded_vote other txn) votes
-      (λ v has. vote_stays txn v (stay (cited_vote v) (map-Has cited_vote votes v has)) (all_founded (is_founded_vote world txn) votes clean v has)))
-
   work_stays : (ask : WorkAsk) → ((c : Citation) → Has (option_to_list (cited_in_work ask)) c → Stays world other c) → unfounded_in_work world ask ≡ None → unfounded_in_work other ask ≡ None
   work_stays (work.Decide txn verdict cite) stay none =
       ap (λ b. unless b (record { part = parts.Desk; number = cite }))
       (test_stays (λ (e : DeskEntry). is_ended txn verdict e.ask e.reply) (item_at world.desk cite) (item_at other.desk cite)
-      (stay (record { part = parts.Desk; number = cite }) (inl refl)) (unless_true (is_founded_verdict world txn verdict cite) _ none))
+      (stay (record { part = parts.Desk; number = cite }) (inl refl)) (unless_none (is_founded_verdict world txn verdict cite) _ none))
   work_stays (work.Refresh file version content from) stay none =
       ap (λ b. unless b (record { part = parts.Server from.server; number = from.number }))
       (test_stays (λ (e : NodeEntry). is_peeked file version content e.ask e.reply) (server_entry world from.server from.number) (server_entry other from.server from.number)
-      (stay (record { part = parts.Server from.server; number = from.number }) (inl refl)) (unless_true (is_founded_copy world file version content from) _ none))
+      (stay (record { part = parts.Server from.server; number = from.number }) (inl refl)) (unless_none (is_founded_copy world file version content from) _ none))
   work_stays ask stay none = refl
 
   pub founded_stays : (step : Step) → ((c : Citation) → Has (cited_in step) c → Stays world other c) → unfounded_citation world step ≡ None → unfounded_citation other step ≡ None
@@ -142,46 +112,25 @@ module _ (world other : JournalsView) where
   founded_stays (steps.Node server (node_asks.CrashIn after ask)) stay none = work_stays ask stay none
   founded_stays (steps.Desk (desk_asks.Commit txn ops votes)) stay none =
       let both = or_else-none (unfounded_op world txn ops) (unfounded_vote world txn votes) none in
-      both_none (unfounded_op other txn ops) (unfounded_vote other txn votes)
-      (ops_stay txn ops (λ c has. stay c (append-Has (cited_in_ops ops) (map cited_vote votes) c (inl has))) both.0)
-      (votes_stay txn votes (λ c has. stay c (append-Has (cited_in_ops ops) (map cited_vote votes) c (inr has))) both.1)
+      commit-founded other txn ops votes
+      (λ op has grant has_grant.
+      grant_stays txn op.file grant (stay (cited_grant grant) (append-Has (cited_in_ops ops) (map cited_vote votes) (cited_grant grant) (inl (ops-cite ops op has grant has_grant))))
+      (ops-are world txn ops both.0 op has grant has_grant))
+      (λ vote has.
+      vote_stays txn vote (stay (cited_vote vote) (append-Has (cited_in_ops ops) (map cited_vote votes) (cited_vote vote) (inr (map-Has cited_vote votes vote has))))
+      (votes-are world txn votes both.1 vote has))
   founded_stays step stay none = refl
 
 -- ---- where a step is founded, each entry stands that it cites
 
 module _ (world : JournalsView) where
-  grants_stand : (txn : ℕ) (file : List ℕ) (grants : List Grant) → unfounded_grant world txn file grants ≡ None → (c : Citation) → Has (map cited_grant grants) c → Stands world c
-  grants_stand txn file grants none c has =
-      let clean = map-none cited_grant (find (λ (g : Grant). not (is_founded_grant world txn file g)) grants) none in
-      let from = Has-map cited_grant grants c has in
-      let g = from.0 in
-      let found = tested-is (λ (e : NodeEntry). is_granted txn file g e.ask e.reply) (server_entry world g.server g.number) (all_founded (is_founded_grant world txn file) grants clean g from.1) in
-      subst (Stands world) from.2 (found.0, found.1)
-
-  ops_stand : (txn : ℕ) (ops : List Op) → unfounded_op world txn ops ≡ None → (c : Citation) → Has (cited_in_ops ops) c → Stands world c
-  ops_stand txn [] none c has = absurd has
-  ops_stand txn (op ∷ ops) none c has =
-      let both = or_else-none (unfounded_grant world txn op.file op.grants) (unfounded_op world txn ops) none in
-      elim (Has-append (map cited_grant op.grants) (cited_in_ops ops) c has) [
-        | inl here ↦ grants_stand txn op.file op.grants both.0 c here
-        | inr there ↦ ops_stand txn ops both.1 c there
-      ]
-
-  votes_stand : (txn : ℕ) (votes : List Vote) → unfounded_vote world txn votes ≡ None → (c : Citation) → Has (map cited_vote votes) c → Stands world c
-  votes_stand txn votes none c has =
-      let clean = map-none cited_vote (find (λ (v : Vote). not (is_founded_vote world txn v)) votes) none in
-      let from = Has-map cited_vote votes c has in
-      let v = from.0 in
-      let found = tested-is (λ (e : NodeEntry). is_voted txn v e.ask e.reply) (server_entry world v.server v.number) (all_founded (is_founded_vote world txn) votes clean v from.1) in
-      subst (Stands world) from.2 (found.0, found.1)
-
   work_stands : (ask : WorkAsk) → unfounded_in_work world ask ≡ None → (c : Citation) → Has (option_to_list (cited_in_work ask)) c → Stands world c
   work_stands (work.Decide txn verdict cite) none c (inl same) =
-      let found = tested-is (λ (e : DeskEntry). is_ended txn verdict e.ask e.reply) (item_at world.desk cite) (unless_true (is_founded_verdict world txn verdict cite) _ none) in
+      let found = tested-is (λ (e : DeskEntry). is_ended txn verdict e.ask e.reply) (item_at world.desk cite) (unless_none (is_founded_verdict world txn verdict cite) _ none) in
       subst (Stands world) same (found.0, found.1)
   work_stands (work.Decide txn verdict cite) none c (inr has) = absurd has
   work_stands (work.Refresh file version content from) none c (inl same) =
-      let found = tested-is (λ (e : NodeEntry). is_peeked file version content e.ask e.reply) (server_entry world from.server from.number) (unless_true (is_founded_copy world file version content from) _ none) in
+      let found = tested-is (λ (e : NodeEntry). is_peeked file version content e.ask e.reply) (server_entry world from.server from.number) (unless_none (is_founded_copy world file version content from) _ none) in
       subst (Stands world) same (found.0, found.1)
   work_stands (work.Refresh file version content from) none c (inr has) = absurd has
   work_stands ask none c has = absurd has
@@ -192,8 +141,16 @@ module _ (world : JournalsView) where
   cited_stands (steps.Desk (desk_asks.Commit txn ops votes)) none c has =
       let both = or_else-none (unfounded_op world txn ops) (unfounded_vote world txn votes) none in
       elim (Has-append (cited_in_ops ops) (map cited_vote votes) c has) [
-        | inl here ↦ ops_stand txn ops both.0 c here
-        | inr there ↦ votes_stand txn votes both.1 c there
+        | inl here ↦
+            let from = cited-op ops c here in
+            let g = from.2 in
+            let found = tested-is (λ (e : NodeEntry). is_granted txn from.0.file g e.ask e.reply) (server_entry world g.server g.number) (ops-are world txn ops both.0 from.0 from.1 g from.3) in
+            subst (Stands world) from.4 (found.0, found.1)
+        | inr there ↦
+            let from = Has-map cited_vote votes c there in
+            let v = from.0 in
+            let found = tested-is (λ (e : NodeEntry). is_voted txn v e.ask e.reply) (server_entry world v.server v.number) (votes-are world txn votes both.1 v from.1) in
+            subst (Stands world) from.2 (found.0, found.1)
       ]
   cited_stands step none c has = absurd has
 

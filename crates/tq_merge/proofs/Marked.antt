@@ -11,7 +11,6 @@ use Rattle.std.proofs.lemmas.List.Folds.{list_any-append}
 use Rattle.std.proofs.lemmas.List.Sums.{count_by_more_yes, count_by_more_no, sum_by-cons}
 use Rattle.tq_shape.specs.Journal.{Has}
 use Rattle.tq_shape.specs.declared.part.Part.{Part}
-use Rattle.tq_shape.specs.declared.part.Part.TheVariants.{Server, Desk, View}
 use Rattle.tq_merge.specs.declared.claimed.EntryName.{EntryName}
 use Rattle.tq_merge.specs.Told.{place_of, part_at, is_named, unnamed_count, unnamed_from, AreDifferent, IsTwice, IsWithin}
 use Rattle.tq_merge.specs.Order.{same_part}

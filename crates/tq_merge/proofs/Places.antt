@@ -9,7 +9,7 @@ use Rattle.std.proofs.lemmas.Bool.{eqb-true, eq-eqb, false≢true}
 use Rattle.tq_shape.specs.declared.part.Part.{Part}
 use Rattle.tq_shape.specs.declared.part.Part.TheVariants.{Server, Desk, View}
 use Rattle.tq_core.specs.World.{item_at}
-use Rattle.tq_core.proofs.Journaled.{item_above}
+use Rattle.tq_core.proofs.Journaled.{item_above, item_below}
 use Rattle.tq_merge.specs.Order.{same_part, times, each_from}
 
 -- ---- parts
@@ -47,11 +47,6 @@ item_at-suc {E} items i =
     let above : nat_lt 0 (suc i) ≡ true = grind arith in
     let place : suc i - 1 ≡ i = omega arith in
     ap (λ b. cond b (slice_get items (suc i - 1)) None) above ∙ ap (slice_get items) place
-
-pub item_below : {E : Type 0} (items : List E) (number : ℕ) (x : E) → 0 < number → slice_get items (number - 1) ≡ Some x → item_at items number ≡ Some x
-item_below {E} items number x above is =
-    let less : nat_lt 0 number ≡ true = grind (arith, above) in
-    ap (λ b. cond b (slice_get items (number - 1)) None) less ∙ is
 
 -- ---- the first entries
 

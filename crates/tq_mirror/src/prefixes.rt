@@ -18,6 +18,9 @@ use tq_tables::{DeskEntry, NodeEntry, TabledJournals, Tables, ViewEntry};
 /// So many entries of tables are copied and let go of while one more is asked, about; a server is as dear as these.
 const COPIES: usize = 8;
 
+/// An entry of the desk is asked as dear as so many of a server, about: the evidence of commits is judged.
+const DESK: usize = 4;
+
 /// What was pulled of the journals of a system: of each part the first entries, and the tables over them, which alone
 /// keep how the parts stand. Contracts see it as these entries; the journals that have them alone are legal.
 ///
@@ -211,7 +214,7 @@ impl Prefixes {
         let tabled = &mut self.tabled;
         let behind = put_behind(&mut tabled.desk, &mut tabled.tables, entries, ahead)?;
         self.spare = None;
-        if self.is_much(more) {
+        if self.is_much(more.saturating_mul(DESK)) {
             return Ok(());
         }
         let fresh = &self.tabled.desk.as_slice()[known..];

@@ -16,9 +16,8 @@ mod telling;
 use crate::votes::locks_of;
 use crate::{CitedVote, NodeAsk, NodeChange, NodeRefusal, NodeReply, NodeStep, Verdict, WorkAsk};
 use std::alloc::Global;
-use std::collections::btree_map::Iter;
 use std::marker::Model;
-use tq_intents::{Intents, NewerWrite, OpenVote, Record, SharedWrite, VoteLocks};
+use tq_intents::{Intents, NewerWrite, OpenVote, Record, SharedWrite, VoteLocks, VotesLeft};
 use tq_locks::{LockTable, Mode};
 use tq_shape::{Levels, Memory, Plan, Seq, ServerId, SharedSeq};
 use tq_store::{Content, Copies, FileName, Write};
@@ -129,7 +128,7 @@ impl Node {
     }
 
     /// The open votes, ascending by transaction.
-    pub fn votes(&self) -> Iter<'_, u64, OpenVote>
+    pub fn votes(&self) -> VotesLeft<'_>
         ensures { result ≡ fin.entries self.now.state.records.votes }
     {
         self.intents.votes()
@@ -403,6 +402,7 @@ impl Node {
     }
 
     /// Gives a vote. All memory is asked for before the first change.
+    #[inline(always)]
     fn vote(
         &mut self,
         alloc: Global,
@@ -500,6 +500,7 @@ impl Node {
 
     /// Installs a vote's writes and ends it. Those that are not newer than the copies change nothing, so only the contract
     /// speaks of all the writes. All memory is asked for before the first change.
+    #[inline(always)]
     fn install(
         &mut self,
         alloc: Global,

@@ -63,7 +63,7 @@ fn writes_of(alloc: Global, newer: &[NewerWrite]) -> Result<SharedSeq<Write>, Me
         let listed = write.get();
         writes.push(listed.write()?)?;
     }
-    SharedSeq::from_vec(writes)
+    Ok(SharedSeq::from_vec(writes)?)
 }
 
 /// A list of that write alone.
@@ -72,5 +72,5 @@ fn alone(alloc: Global, write: &Write) -> Result<SharedSeq<Write>, Memory>
 {
     let mut writes = Vec::new(alloc);
     writes.push(write.clone()?)?;
-    SharedSeq::from_vec(writes)
+    Ok(SharedSeq::from_vec(writes)?)
 }

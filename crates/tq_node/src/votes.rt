@@ -11,6 +11,7 @@ use tq_shape::{Memory, SharedSeq};
 use tq_store::Write;
 
 /// The locks of a transaction, as a vote lists them and as it keeps them: both share one list.
+#[inline(always)]
 pub(crate) fn locks_of(
     alloc: Global,
     table: &LockTable,

@@ -1,6 +1,6 @@
 //! A part with its journal.
 
-ghost use Rattle.std.specs.Prelude.{◌≡◌, ◌+◌, ◌^◌, [], ◌≤◌, ◌<◌, ◌↔◌, ℕ, length, vec_len, IsTrue, IfOk, OnOk, OnErr, IsErrOf};
+ghost use Rattle.std.specs.Prelude.{◌≡◌, ◌+◌, ◌^◌, [], ◌≤◌, ◌<◌, ◌↔◌, length, vec_len, IsTrue, IfOk, OnOk, OnErr, IsErrOf};
 ghost use Rattle.tq_shape.specs.Journal.{IsLegalFrom, state_from};
 ghost use Rattle.tq_shape.specs.Agrees.{answer_to, state_after_entry, next_number, standing_part, IsFull};
 

@@ -1,6 +1,6 @@
 //! How many levels a tree has.
 
-ghost use Rattle.std.specs.Prelude.{◌≡◌, ℕ, ◌+◌, ◌-◌, ◌*◌, ◌^◌, ◌<◌, ◌≤◌};
+ghost use Rattle.std.specs.Prelude.{◌≡◌, ℕ, ◌+◌, ◌-◌, ◌^◌, ◌<◌, ◌≤◌};
 
 use std::marker::Model;
 
@@ -26,7 +26,7 @@ impl Model for Levels {
 }
 
 impl Levels {
-    ghost use Rattle.std.specs.Prelude.{◌≡◌, ℕ, ◌+◌, ◌-◌, ◌*◌, ◌^◌, ◌<◌, ◌≤◌};
+    ghost use Rattle.std.specs.Prelude.{◌≡◌, ◌+◌, ◌-◌, ◌^◌, ◌<◌, ◌≤◌};
     ghost use Rattle.std.specs.Option.{SomeIff};
 
     /// The levels of that count, if there is such a tree: `None` for 0 and above [`MOST_LEVELS`].

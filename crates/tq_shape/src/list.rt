@@ -1,6 +1,6 @@
 //! Lists that contracts see as lists.
 
-ghost use Rattle.std.specs.Prelude.{◌≡◌, [], ◌∷◌, ◌++◌, IfOk, IfErr, OnOk, OnErr, length, ◌↔◌, IsTrue};
+ghost use Rattle.std.specs.Prelude.{◌≡◌, [], length, ◌↔◌, IsTrue};
 
 use std::alloc::{AllocError, Global};
 use std::marker::Model;
@@ -98,8 +98,6 @@ impl<T: PartialEq> PartialEq for Seq<T> {
 }
 
 impl<T: ExactClone> ExactClone for Seq<T> {
-    ghost use Rattle.std.specs.Prelude.{refl};
-
     ghost clones = { λ x y h. h };
 }
 

@@ -1,6 +1,6 @@
 //! Servers by their numbers, and their places in the tree.
 
-ghost use Rattle.std.specs.Prelude.{◌≡◌, ℕ, ◌+◌, ◌-◌, ◌*◌, ◌/◌, ◌^◌, ◌<◌, ◌≤◌, ◌↔◌, suc, IfSome, IfNone, IsTrue};
+ghost use Rattle.std.specs.Prelude.{◌≡◌, ◌+◌, ◌-◌, ◌*◌, ◌/◌, ◌^◌, ◌<◌, ◌≤◌, ◌↔◌, suc, IfSome, IfNone, IsTrue};
 ghost use Rattle.std.specs.Option.{SomeIff};
 ghost use Rattle.tq_shape.specs.Tree.{AnswersServer, HasNoSideTowards, IsServer, IsSideTowards, server_numbered, left_of, right_of, depth_of, height_at};
 ghost use Rattle.tq_shape.specs.Sides.{sides_of};

@@ -1,6 +1,6 @@
 //! Sets of servers of one tree.
 
-ghost use Rattle.std.specs.Prelude.{◌≡◌, ◌++◌, ◌<◌, ◌/◌, ◌%◌, ◌^◌, ◌↔◌, not, nat_eq, [], ◌∷◌, All, IfOk, IsTrue};
+ghost use Rattle.std.specs.Prelude.{◌≡◌, ◌<◌, ◌/◌, ◌%◌, ◌^◌, ◌↔◌, not, nat_eq, [], All, IfOk, IsTrue};
 ghost use Rattle.std.specs.Cmp.Lexicographic.{pointwise};
 ghost use Rattle.tq_shape.specs.Tree.{IsServer};
 ghost use Rattle.tq_shape.specs.ServerSet.{AreBelow, Ascends, has_number, have_same_numbers, servers_of_numbers, first_of, set_with, set_with_last, set_without};

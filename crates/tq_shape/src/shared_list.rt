@@ -1,17 +1,17 @@
 //! Lists that their clones share.
 
-ghost use Rattle.std.specs.Prelude.{◌≡◌, [], IfOk, length, ◌↔◌, IsTrue};
+ghost use Rattle.std.specs.Prelude.{◌≡◌, [], IfErr, IfOk, length, ◌↔◌, IsTrue};
 
 use crate::ExactClone;
-use std::alloc::AllocError;
+use std::alloc::{AllocError, AllocFailed};
 use std::marker::Model;
-use std::sync::ArcSlice;
+use std::sync::Arc;
 
 /// A list of values that its clones share: a clone is a count, not a copy. Contracts see it as the list alone, as they
 /// see a `Seq`.
 pub struct SharedSeq<T> {
     /// None where there is no value.
-    items: Option<ArcSlice<T>>,
+    items: Option<Arc<Vec<T>>>,
 }
 
 // Written out, so that a crate above lets go of one by a call.
@@ -23,16 +23,16 @@ impl<T: Drop> Drop for SharedSeq<T> {
 }
 
 impl<T> Model for SharedSeq<T> {
-    ghost use Rattle.std.specs.Prelude.{List, []};
+    ghost use Rattle.std.specs.Prelude.{List, [], vec_items};
     ghost use Rattle.std.specs.Coded.{coded_list};
-    ghost use Rattle.std.specs.Arc.{arc_slice_items};
+    ghost use Rattle.std.specs.Arc.{arc_value};
     ghost use Rattle.std.specs.Option.{option_map_or};
 
     ghost Value = { List T };
 
     ghost coded = { coded_list T.code };
 
-    ghost view = { λ a. option_map_or arc_slice_items a.items [] };
+    ghost view = { λ a. option_map_or (λ items. vec_items (arc_value items)) a.items [] };
 }
 
 impl<T> SharedSeq<T> {
@@ -73,14 +73,15 @@ impl<T: Drop> SharedSeq<T> {
     ///
     /// # Errors
     ///
-    /// Refuses where there is no memory for what clones will share.
-    pub fn from_vec(items: Vec<T>) -> Result<Self, AllocError>
-        ensures { IfOk result (λ list. list ≡ items.items) }
+    /// Gives the vector back where there is no memory for what clones will share.
+    pub fn from_vec(items: Vec<T>) -> Result<Self, AllocFailed<Vec<T>>>
+        ensures list { IfOk result (λ list. list ≡ items.items) }
+        ensures back { IfErr result (λ refused. refused.value ≡ items) }
     {
         if items.is_empty() {
             return Ok(SharedSeq::empty());
         }
-        let items = Some(ArcSlice::from_vec(items)?);
+        let items = Some(Arc::new(*items.allocator(), items)?);
         Ok(SharedSeq { items })
     }
 }

@@ -1,6 +1,6 @@
 //! The copies that a server has.
 
-ghost use Rattle.std.specs.Prelude.{◌≡◌, ◌+◌, ◌<◌, ◌≤◌, OnOk, IfOk, IfSome, IsOk, nat_lt};
+ghost use Rattle.std.specs.Prelude.{◌≡◌, ◌+◌, ◌<◌, ◌≤◌, OnOk, IfOk, IfSome, nat_lt};
 ghost use Rattle.std.specs.FinMap as map;
 
 use crate::bounded::MOST_HASHED;

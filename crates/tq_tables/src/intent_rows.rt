@@ -6,11 +6,10 @@ ghost use Rattle.tq_tables.specs.Rows.{intent_rows_at, intent_state_at, left_at,
 ghost use Rattle.tq_tables.specs.Rows as spec;
 
 use std::alloc::Global;
-use std::collections::btree_map::Iter;
 use std::marker::Model;
 use tq_asks::Verdict;
 use tq_desk::Desk;
-use tq_intents::OpenVote;
+use tq_intents::VotesLeft;
 use tq_node::Node;
 use tq_shape::{Memory, Seq, ServerId};
 use tq_store::{FileName, Write};
@@ -47,7 +46,7 @@ impl<'a> OpenIntent<'a> {
 #[derive(Drop)]
 struct VotesAt<'a> {
     server: ServerId,
-    votes: Iter<'a, u64, OpenVote>,
+    votes: VotesLeft<'a>,
 }
 
 /// The votes that are open, as far as they are left to walk: ascending by server and transaction. A walk takes no memory.

@@ -1,5 +1,7 @@
 //! A client that reads what it has written, and a board of a running cluster.
 ghost use Rattle.std.specs.Prelude.{◌≡◌};
+ghost use Rattle.tq_txn.specs.Told.{IsOpenIn, Knows};
+ghost use Rattle.tq_txn.specs.declared.txn.Txn.TheVariants as states;
 
 use std::alloc::Global;
 use std::mem::forget;
@@ -52,8 +54,9 @@ fn is_begun(told: &Result<DeskTold, AskFault>, number: u64) -> bool {
 }
 
 /// The transaction of that number begins.
+#[tactic(auto, using(tq_txn::proofs::KnownLaws::open_fresh))]
 fn begin<R: Abort, A: Asker>(rt: &R, alloc: Global, asker: &mut A, number: u64) -> Open
-    ensures levels { result.levels ≡ 1 }
+    ensures txn { IsOpenIn 1 (A.told asker.new) result }
     ensures tree { A.levels asker.new ≡ A.levels asker.old }
 {
     let told = asker.desk(alloc, DeskAsk::Begin);
@@ -81,8 +84,8 @@ fn is_copy(read: &Result<ReadAnswer, LineFault>) -> bool {
 
 /// The transaction writes `a`, and reads it.
 fn write<R: Abort, A: Asker>(rt: &R, alloc: Global, asker: &mut A, open: &mut Open)
-    requires { open.old.levels ≡ A.levels asker.old }
-    ensures levels { open.new.levels ≡ open.old.levels }
+    requires { IsOpenIn (A.levels asker.old) (A.told asker.old) open.old }
+    ensures txn { IsOpenIn (A.levels asker.old) (A.told asker.new) open.new }
     ensures tree { A.levels asker.new ≡ A.levels asker.old }
 {
     let written = write_file(asker, alloc, open, &a(), content(rt, alloc));
@@ -93,8 +96,10 @@ fn write<R: Abort, A: Asker>(rt: &R, alloc: Global, asker: &mut A, open: &mut Op
     forget(read);
 }
 
-fn closed<R: Abort>(rt: &R, open: Open) -> Voting
-    ensures { result.txn.levels ≡ open.levels }
+fn closed<R: Abort, A: Asker>(rt: &R, asker: &A, open: Open) -> Voting
+    requires { IsOpenIn (A.levels asker.now) (A.told asker.now) «open» }
+    ensures tree { result.txn.levels ≡ A.levels asker.now }
+    ensures knows { Knows (A.told asker.now) (states.Voting result) }
 {
     match open.close() {
         Ok(voting) => voting,
@@ -112,7 +117,7 @@ fn write_and_commit<R: Abort, A: Asker>(rt: &R, alloc: Global, asker: &mut A)
 {
     let mut open = begin(rt, alloc, asker, 1);
     write(rt, alloc, asker, &mut open);
-    let voting = closed(rt, open);
+    let voting = closed(rt, asker, open);
     let Decision { answer, txn } = commit(asker, alloc, voting);
     forget(txn);
     assert!(rt; matches!(&answer, Ok(1)));

@@ -50,6 +50,15 @@ impl Asker for Forger {
         }
     }
 
+    fn tell(
+        &mut self,
+        alloc: Global,
+        server: ServerId,
+        ask: NodeAsk,
+    ) -> Result<NodeTold, AskFault> {
+        self.node(alloc, server, ask)
+    }
+
     fn desk(&mut self, _alloc: Global, ask: DeskAsk) -> Result<DeskTold, AskFault> {
         forget(ask);
         Err(AskFault::Memory)

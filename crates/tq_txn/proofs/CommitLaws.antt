@@ -18,9 +18,9 @@ use Rattle.tq_txn_states.specs.Voting.{VotingView, has_votes, ready_fault, evide
 use Rattle.tq_txn.proofs.LineLaws.{follows_end, follows_answer, follows_on, follows_off}
 use Rattle.tq_shape.specs.declared.fault.AskFault.{AskFault}
 use Rattle.tq_txn_states.specs.Open.{OpenView}
-use Rattle.tq_txn.specs.Told.{IsStill, levels_of, number_of, EndsWhereTold, IsAnswered, IsEnding, IsKnown, is_ended}
+use Rattle.tq_txn.specs.Told.{Grown, IsStill, levels_of, number_of, EndsWhereTold, IsAnswered, IsEnding, IsKnown, is_ended}
 use Rattle.tq_txn.proofs.EndLaws.{Untold, ends_after, ends_answered, ends_before, ends_nothing, ends_refused, resolved_answered, resolved_ends, resolved_still, gathered_on, still_same}
-use Rattle.tq_txn.proofs.KnownLaws.{knows_answered, knows_grow, Grown, ends_as_told, ends_unasked, ends_within}
+use Rattle.tq_txn.proofs.KnownLaws.{knows_answered, knows_grow, ends_as_told, ends_unasked, ends_within}
 
 module _ (voters rest : List ℕ) (server : ℕ) (old new : VotingView) (is : voters ≡ server ∷ rest) where
   pub prepares_off : (fault : LineFault) (told after : List Exchange) → Follows (prepare_line old server) told after (ended_by (Err fault) new) → Follows (prepares_line voters old) told after (ended_by (Err fault) new)
@@ -140,11 +140,12 @@ module _ (old after : Txn) (ask : DeskAsk) (answer : DeskTold) (told mid later :
       let answered = subst (IsAnswered old answer) (sym is) (resolved_answered old answer) in
       let ends : is_some (verdict_in (number_of old) answer) ≡ true → is_ended after ≡ true = λ some. ap is_ended is ∙ resolved_ends old answer some in
       let more : Grown mid later = (untold.0, untold.1) in
+      let verdict = ends_as_told ask answer asked told mid later grown more old after answered in
       record {
         still = subst (IsStill old) (sym is) (resolved_still old answer);
-        verdict = ends_as_told ask answer asked told mid later grown more old after answered;
+        verdict = verdict;
         ends = ends_before (number_of old) told mid later after (ends_answered (number_of old) ask answer told mid after asked grown ends) untold;
-        knows = λ known. knows_answered later old after answer answered (knows_grow mid later more old (knows_grow told mid (desk_exchange ask (Ok answer), grown) old known));
+        knows = λ known. knows_answered told later old after answer answered verdict (knows_grow mid later more old (knows_grow told mid (desk_exchange ask (Ok answer), grown) old known));
       }
 
 -- votes came before

@@ -2,6 +2,7 @@
 -- desk is asked of it.
 use Rattle.std.proofs.Common.{◌≡◌, List, [], ◌∷◌, ◌++◌, Option, Some, None, Ok, refl, sym, ap, ◌∙◌, subst, ℕ, Result, Err, append_assoc, append-nil}
 use Rattle.std.specs.List.{Contains, All}
+use Rattle.std.specs.Option.{IfSome}
 use Rattle.std.proofs.lemmas.List.Elements.{Contains-append_left, Contains-append_right, Contains-push, All-nil, All-append, All-push, All-weaker, All-contains, All-contains_itself, filter_map-append}
 use Rattle.tq_desk.specs.declared.ask.DeskAsk.{DeskAsk}
 use Rattle.tq_txn_states.specs.declared.told.DeskTold.{DeskTold}
@@ -12,7 +13,7 @@ use Rattle.tq_txn.specs.declared.asker.Exchange.TheVariants as exchanges
 use Rattle.tq_txn.specs.declared.txn.Txn.{Txn}
 use Rattle.tq_txn.specs.declared.txn.Txn.TheVariants as states
 use Rattle.tq_txn.specs.Dialogue.{Dialogue, Follows, desk_exchange, node_exchange}
-use Rattle.tq_txn.specs.Told.{IsEndTold, EndsAsTold, IsAnswered, answer_in, answers_in, AreTold, Knows, CitesTold, CitesSince}
+use Rattle.tq_txn.specs.Told.{Grown, IsEndTold, EndsAsTold, IsAnswered, answer_in, answers_in, AreTold, IsOpenIn, Knows, CitesTold, CitesSince}
 use Rattle.tq_txn.proofs.LineLaws.{further}
 use Rattle.tq_asks.specs.declared.ask.NodeAsk.{NodeAsk}
 use Rattle.tq_shape.specs.declared.fault.AskFault.{AskFault}
@@ -22,10 +23,6 @@ use Rattle.tq_evidence.specs.declared.op.Op.{Op}
 use Rattle.tq_evidence.specs.declared.vote.Vote.{Vote}
 use Rattle.tq_txn_states.specs.declared.told.NodeTold.{NodeTold}
 use Rattle.tq_txn_states.specs.Open.{OpenView, IsTouched}
-
--- what was told grew
-abbrev pub Grown : List Exchange → List Exchange → Type 0
-Grown old new = (more : List Exchange) × (new ≡ old ++ more)
 
 pub grown_along : {A : Type 0} (line : Dialogue A) (old new : List Exchange) (end : Option A) → Follows line old new end → Grown old new
 grown_along line old new None follows = (follows.0, follows.1)
@@ -70,6 +67,17 @@ ends_within before mid_before (states.Ended ended) old first last new earlier la
       (is.2.0, is.2.1, is.2.2, Contains-append_right earlier.0 more entry (Contains-append_left is.0 later.0 entry is.2.3)),
     )
 
+-- what was told of it is told still
+pub end_grown : (old new : List Exchange) → Grown old new → (ended : EndedView) → IsEndTold old ended → IsEndTold new ended
+end_grown old new more ended is =
+    let entry : Exchange = exchanges.Desk is.0 (Ok (record { number = ended.cite; reply = is.1 })) in
+    (is.0, is.1, is.2, subst (λ (told : List Exchange). Contains told entry) (sym more.1) (Contains-append_left old more.0 entry is.3))
+
+end_since : (old new : List Exchange) (ended : EndedView) → (more : List Exchange) × (new ≡ old ++ more) × IsEndTold more ended → IsEndTold new ended
+end_since old new ended is =
+    let entry : Exchange = exchanges.Desk is.2.0 (Ok (record { number = ended.cite; reply = is.2.1 })) in
+    (is.2.0, is.2.1, is.2.2, subst (λ (told : List Exchange). Contains told entry) (sym is.1) (Contains-append_right old is.0 entry is.2.3))
+
 -- ---- known laws
 
 -- ---- of more answers
@@ -109,7 +117,15 @@ told_grow old new answers more are =
 pub knows_grow : (old new : List Exchange) → Grown old new → (txn : Txn) → Knows old txn → Knows new txn
 knows_grow old new more (states.Open open_txn) is = keeps_within (answers_in old) (answers_in new) (answers_grow old new more) open_txn is
 knows_grow old new more (states.Voting voting) is = votes_within (answers_in old) (answers_in new) (answers_grow old new more) voting is
-knows_grow old new more (states.Ended ended) is = tt
+knows_grow old new more (states.Ended ended) is = end_grown old new more ended is
+
+-- an open transaction that began just now, and one beside which others were asked
+pub open_fresh : (levels : ℕ) (told : List Exchange) (txn : OpenView) → txn.levels ≡ levels → KeepsOnly [] txn → IsOpenIn levels told txn
+open_fresh levels told txn tree none = (tree, keeps_within [] (answers_in told) (All-nil (Contains (answers_in told))) txn none)
+
+pub open_beside : (levels : ℕ) (line : Dialogue (Unit {0})) (old new : List Exchange) (txn : Option OpenView) → Follows line old new (Some tt) → IfSome txn (IsOpenIn levels old) → IfSome txn (IsOpenIn levels new)
+open_beside levels line old new None asks is = tt
+open_beside levels line old new (Some txn) asks is = (is.0, knows_grow old new (grown_along line old new (Some tt) asks) (states.Open txn) is.1)
 
 -- the answer of a server is told last
 pub answers_more : (server : ℕ) (ask : NodeAsk) (told : NodeTold) (old new : List Exchange) → new ≡ old ++ node_exchange server ask (Ok told) → told.server ≡ server → told.ask ≡ ask → answers_in new ≡ answers_in old ++ told ∷ []
@@ -149,14 +165,14 @@ pub knows_voted : (given : List NodeTold) (told : NodeTold) (before after : Voti
 knows_voted given told before after same is =
     subst (VotesOnly (given ++ told ∷ [])) (sym same) (votes_within given (given ++ told ∷ []) (all_left given (told ∷ [])) before is)
 
-pub knows_answered : (told : List Exchange) (before after : Txn) (answer : DeskTold) → IsAnswered before answer after → Knows told before → Knows told after
-knows_answered told (states.Ended before) after answer same is = subst (Knows told) (sym same) is
-knows_answered told (states.Open before) (states.Ended after) answer same is = tt
-knows_answered told (states.Voting before) (states.Ended after) answer same is = tt
-knows_answered told (states.Open before) (states.Open after) answer same is = subst (Knows told) (sym same) is
-knows_answered told (states.Open before) (states.Voting after) answer same is = subst (Knows told) (sym same) is
-knows_answered told (states.Voting before) (states.Open after) answer same is = subst (Knows told) (sym same) is
-knows_answered told (states.Voting before) (states.Voting after) answer same is = subst (Knows told) (sym same) is
+pub knows_answered : (old told : List Exchange) (before after : Txn) (answer : DeskTold) → IsAnswered before answer after → EndsAsTold before old told after → Knows told before → Knows told after
+knows_answered old told (states.Ended before) after answer same ends is = subst (Knows told) (sym same) is
+knows_answered old told (states.Open before) (states.Ended after) answer same ends is = end_since old told after ends
+knows_answered old told (states.Voting before) (states.Ended after) answer same ends is = end_since old told after ends
+knows_answered old told (states.Open before) (states.Open after) answer same ends is = subst (Knows told) (sym same) is
+knows_answered old told (states.Open before) (states.Voting after) answer same ends is = subst (Knows told) (sym same) is
+knows_answered old told (states.Voting before) (states.Open after) answer same ends is = subst (Knows told) (sym same) is
+knows_answered old told (states.Voting before) (states.Voting after) answer same ends is = subst (Knows told) (sym same) is
 
 -- ---- what the desk is asked
 

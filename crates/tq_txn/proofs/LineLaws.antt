@@ -9,7 +9,9 @@ use Rattle.tq_desk.specs.declared.ask.DeskReply.{DeskReply}
 use Rattle.tq_live.specs.declared.purpose.Purpose.{Purpose}
 use Rattle.tq_live.specs.declared.view.ViewAsk.{ViewAsk}
 use Rattle.tq_live.specs.declared.view.ViewReply.{ViewReply}
-use Rattle.std.specs.Prelude.{IfOk}
+use Rattle.std.specs.Prelude.{IfOk, OnErr}
+use Rattle.std.specs.Option.{option_map}
+use Rattle.std.specs.Result.{result_ok}
 use Rattle.tq_shape.specs.declared.fault.AskFault.{AskFault}
 use Rattle.tq_shape.specs.declared.fault.AskFault.TheVariants as ask_faults
 use Rattle.tq_txn.specs.declared.asker.Exchange.{Exchange}
@@ -25,7 +27,7 @@ use Rattle.tq_locks.specs.declared.mode.Mode.{Mode}
 use Rattle.tq_shape.specs.Tree.{Server}
 use Rattle.tq_coterie.specs.Coterie.{numbers_of}
 use Rattle.tq_txn_states.specs.Ended.{EndedView, decide_ask}
-use Rattle.tq_txn.specs.Lines.{LocksView, purpose_of, choose_line, next_lock, locks_line, quorum_line, read_end, quorum_read, read_line, write_end, quorum_write, write_line, refusal_in, vote_answer, prepare_line, any_line, is_nothing_here, release_line, end_line, ending_line, down_line, stop_line, prepare_stop_line}
+use Rattle.tq_txn.specs.Lines.{LocksView, purpose_of, choose_line, next_lock, locks_line, quorum_line, read_end, quorum_read, read_line, write_end, quorum_write, write_line, refusal_in, vote_answer, prepare_line, any_answer, any_line, is_nothing_here, release_line, end_line, ending_line, down_line, stop_line, prepare_stop_line}
 use Rattle.tq_store.specs.declared.copies.FileCopy.{FileCopy}
 use Rattle.tq_evidence.specs.declared.op.OpKind.TheVariants as kinds
 use Rattle.tq_evidence.specs.Evidence.{greatest}
@@ -147,11 +149,6 @@ told_node server ask told old new grown servers asks =
     let P : NodeTold → Type 0 = λ t. Follows (node_line server ask) old new (Some (record { answer = Ok t; after = tt })) in
     subst P (sym same) (follows_node server ask _ (Ok (record { number = told.number; reply = told.reply })) old new new (Some (record { answer = Ok record { server = server; number = told.number; ask = ask; reply = told.reply }; after = tt })) grown (follows_end _ new))
 
-pub refused_node : (server : ℕ) (ask : NodeAsk) (fault : AskFault) (old new : List Exchange) → new ≡ old ++ node_exchange server ask (Err fault) → Follows (node_line server ask) old new (ended_by (Err (fault_of_ask fault)) tt)
-refused_node server ask ask_faults.Memory old new grown = ([], grown, inl refl)
-refused_node server ask (ask_faults.JournalFull part) old new grown = follows_node server ask _ (Err (ask_faults.JournalFull part)) old new new (Some (record { answer = Err (faults.JournalFull part); after = tt })) grown (follows_end _ new)
-refused_node server ask (ask_faults.Unfounded part number) old new grown = follows_node server ask _ (Err (ask_faults.Unfounded part number)) old new new (Some (record { answer = Err (faults.Unfounded part number); after = tt })) grown (follows_end _ new)
-
 pub told_desk : (ask : DeskAsk) (told : DeskTold) (old new : List Exchange) → new ≡ old ++ desk_exchange ask (Ok told) → told.ask ≡ ask → Follows (desk_line ask) old new (Some (record { answer = Ok told; after = tt }))
 told_desk ask told old new grown asks =
     let same : told ≡ record { number = told.number; ask = ask; reply = told.reply } = λ i. record { number = told.number; ask = asks i; reply = told.reply } in
@@ -231,6 +228,20 @@ module _ (file : List ℕ) (mode : Mode) (levels : ℕ) (old : OpenView) (same :
         follows_on (choose_line old.levels (purpose_of mode)) (λ none. old) (λ servers none. and_then (locks_line file mode servers (record { answers = []; txn = old })) (λ s. s.txn) (λ all s. line_done s.answers s.txn)) servers tt told mid after (Some (record { answer = Ok new.answers; after = new.txn }))
         (chosen_line told mid (Some record { answer = Ok servers; after = tt }) first)
         (follows_on (locks_line file mode servers (record { answers = []; txn = old })) (λ s. s.txn) (λ all s. line_done s.answers s.txn) tt new mid after after (Some (record { answer = Ok new.answers; after = new.txn })) (locked after (Some record { answer = Ok tt; after = new }) more) (follows_end _ after))
+
+-- an ask of which any answer is taken, and what a call answers of it
+abbrev any_end : Option NodeReply → LineEnd (Option NodeReply) (Unit {0})
+any_end reply = record { answer = Ok reply; after = tt }
+
+any_told : (server : ℕ) (ask : NodeAsk) (told : Result NodeTold AskFault) (old new : List Exchange) → new ≡ old ++ node_exchange server ask told → Follows (any_line server ask) old new (option_map any_end (any_answer told))
+any_told server ask (Ok told) old new grown = (node_exchange server ask (Ok told), grown, (Ok (record { number = told.number; reply = told.reply }), [], refl, (refl, refl)))
+any_told server ask (Err ask_faults.Memory) old new grown = ([], grown, inl refl)
+any_told server ask (Err fault) old new grown = (node_exchange server ask (Err fault), grown, (Err fault, [], refl, (refl, refl)))
+
+pub any_on : {E : Type 0} (server : ℕ) (ask : NodeAsk) (told : Result NodeTold AskFault) (result : Result (Option NodeReply) E) (old new : List Exchange) → new ≡ old ++ node_exchange server ask told → result_ok result ≡ any_answer told
+    → IfOk result (λ reply. Follows (any_line server ask) old new (Some (record { answer = Ok reply; after = tt }))) × OnErr result (Follows (any_line server ask) old new None)
+any_on server ask told (Ok reply) old new grown is = (subst (λ (o : Option (Option NodeReply)). Follows (any_line server ask) old new (option_map any_end o)) (sym is) (any_told server ask told old new grown), tt)
+any_on server ask told (Err fault) old new grown is = (tt, subst (λ (o : Option (Option NodeReply)). Follows (any_line server ask) old new (option_map any_end o)) (sym is) (any_told server ask told old new grown))
 
 -- a server is told the verdict by an ask that says it, and is then asked to release the locks where nothing was prepared
 pub end_told : (ended : EndedView) (server : ℕ) (ask : NodeAsk) (reply : Option NodeReply) (txn : ℕ) (wanted : Bool) (result : Result (Unit {0}) LineFault) (told mid new : List Exchange) → ask ≡ decide_ask ended → txn ≡ ended.txn → wanted ≡ is_nothing_here reply

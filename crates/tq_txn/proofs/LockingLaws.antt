@@ -26,12 +26,12 @@ use Rattle.tq_txn.specs.declared.asker.Exchange.{Exchange}
 use Rattle.tq_txn.specs.declared.fault.LineFault.{LineFault}
 use Rattle.tq_txn.specs.Dialogue.{Follows, line_done, ended_by, node_line, Dialogue, LineEnd}
 use Rattle.tq_txn.specs.Lines.{AreOf, LocksView, answers, grant_answer, lock_answer, lock_ask, lock_line, next_lock, IsLocking, IsLockAt, locks_line, locks_of}
-use Rattle.tq_txn.specs.Told.{answers_in, AreHeard}
+use Rattle.tq_txn.specs.Told.{Grown, answers_in, AreHeard}
 use Rattle.tq_txn.proofs.LineLaws.{follows_answer, follows_end, follows_on, follows_memory, follows_off, locks_off, locks_on}
 use Rattle.tq_txn_states.proofs.Searched.{within-with_number}
 use Rattle.tq_txn.specs.declared.fault.LineFault.TheVariants.{Memory}
 use Rattle.tq_txn.specs.declared.operations.WantedLock.{WantedLock}
-use Rattle.tq_txn.proofs.KnownLaws.{told_push, told_same, Grown, grown_along}
+use Rattle.tq_txn.proofs.KnownLaws.{told_push, told_same, grown_along}
 
 -- ---- a lock at a server
 

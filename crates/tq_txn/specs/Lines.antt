@@ -2,6 +2,8 @@
 use Rattle.std.specs.Prelude.{◌≡◌, ◌==◌, ◌+◌, ℕ, Bool, true, false, List, [], ◌∷◌, ◌++◌, Option, Some, None, OnOk, Result, Ok, Err, if◌then◌else◌}
 use Rattle.std.specs.Global.{Vec}
 use Rattle.std.specs.List.{All}
+use Rattle.tq_shape.specs.declared.fault.AskFault.{AskFault}
+use Rattle.tq_shape.specs.declared.fault.AskFault.TheVariants as ask_faults
 use Rattle.tq_shape.specs.declared.part.Part.TheVariants as parts
 use Rattle.tq_store.specs.declared.copies.FileCopy.{FileCopy}
 use Rattle.tq_locks.specs.declared.mode.Mode.{Mode}
@@ -211,6 +213,12 @@ prepare_line old server = if has_vote old.votes server then line_done tt old els
 abbrev pub reply_in : Told NodeReply → Option NodeReply
 reply_in (Ok answered) = Some answered.reply
 reply_in (Err fault) = None
+
+-- what a call answers of it: nothing where memory was refused
+abbrev pub any_answer : Result NodeTold AskFault → Option (Option NodeReply)
+any_answer (Ok told) = Some (Some told.reply)
+any_answer (Err ask_faults.Memory) = None
+any_answer (Err fault) = Some None
 
 abbrev pub any_line : ℕ → NodeAsk → Dialogue (LineEnd (Option NodeReply) (Unit {0}))
 any_line server ask = AsksNode server ask (λ answer. line_done (reply_in answer) tt)

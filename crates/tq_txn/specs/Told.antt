@@ -3,10 +3,11 @@
 use Rattle.std.specs.Prelude.{◌≡◌, ℕ, Bool, true, false, is_some, List, [], ◌∷◌, ◌++◌, Option, Some, None, Ok}
 use Rattle.tq_txn.specs.declared.txn.Txn.{Txn}
 use Rattle.tq_txn.specs.declared.txn.Txn.TheVariants as states
-use Rattle.tq_txn_states.specs.Ended.{EndedView, verdict_by, verdict_in}
+use Rattle.tq_txn_states.specs.Ended.{EndedView, decide_ask, verdict_by, verdict_in}
 use Rattle.tq_txn_states.specs.Open.{OpenView}
 use Rattle.tq_txn_states.specs.Voting.{VotingView, IsVotedOn, CitesOnly, KeepsOnly, VotesOnly, answers_of}
 use Rattle.std.specs.List.{All, Contains, filter_map, list_any}
+use Rattle.tq_asks.specs.declared.ask.NodeAsk.{NodeAsk}
 use Rattle.tq_desk.specs.declared.ask.DeskAsk.{DeskAsk}
 use Rattle.tq_desk.specs.declared.ask.DeskReply.{DeskReply}
 use Rattle.tq_evidence.specs.declared.grant.Grant.{Grant}
@@ -53,12 +54,20 @@ IsStill (states.Ended old) new = new ≡ states.Ended old
 
 -- ---- told
 
+-- what was told grew
+abbrev pub Grown : List Exchange → List Exchange → Type 0
+Grown old new = (more : List Exchange) × (new ≡ old ++ more)
+
 -- ---- how a transaction ended
 
 -- the desk told the verdict, in the entry that the transaction cites
 abbrev pub IsEndTold : List Exchange → EndedView → Type 0
 IsEndTold told ended =
     (ask : DeskAsk) × (reply : DeskReply) × (verdict_by ended.txn ask reply ≡ Some ended.verdict) × Contains told (exchanges.Desk ask (Ok (record { number = ended.cite; reply = reply })))
+
+-- the ask tells a verdict that the desk told
+abbrev pub IsVerdictTold : List Exchange → NodeAsk → Type 0
+IsVerdictTold told ask = (ended : EndedView) × (ask ≡ decide_ask ended) × IsEndTold told ended
 
 -- a transaction that has ended had ended so before, or the desk told its verdict since
 abbrev pub EndsAsTold : Txn → List Exchange → List Exchange → Txn → Type 0
@@ -104,11 +113,15 @@ AreTold told answers = All (Contains (answers_in told)) answers
 abbrev pub AreHeard : ℕ → List ℕ → List Exchange → List Grant → Type 0
 AreHeard txn file told grants = AreTold told (answers_of txn file grants)
 
--- each grant and each vote that the transaction keeps was told
+-- each grant and each vote that the transaction keeps was told, and its verdict
 abbrev pub Knows : List Exchange → Txn → Type 0
 Knows told (states.Open old) = KeepsOnly (answers_in told) old
 Knows told (states.Voting old) = VotesOnly (answers_in told) old
-Knows told (states.Ended old) = Unit {0}
+Knows told (states.Ended old) = IsEndTold told old
+
+-- the open transaction is of a tree of so many levels, and knows what it keeps
+abbrev pub IsOpenIn : ℕ → List Exchange → OpenView → Type 0
+IsOpenIn levels told txn = (txn.levels ≡ levels) × Knows told (states.Open txn)
 
 -- of a transaction in this state all that it keeps is told also afterwards
 abbrev pub IsKnown : {S : Type 0} → (S → Txn) → List Exchange → List Exchange → S → S → Type 0

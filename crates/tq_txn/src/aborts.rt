@@ -4,7 +4,7 @@ ghost use Rattle.std.specs.Prelude.{◌≡◌, Some};
 ghost use Rattle.tq_txn.specs.Commits as spec;
 ghost use Rattle.tq_txn.specs.Dialogue as line;
 ghost use Rattle.tq_txn.specs.Told as states;
-ghost use Rattle.tq_txn.specs.Told.{IsEnding};
+ghost use Rattle.tq_txn.specs.Told.{IsEndTold, IsEnding, Knows};
 
 use crate::endings::end_at_each;
 use crate::fault::is_commit;
@@ -29,7 +29,8 @@ fn ended_by(txn: Txn, verdict: Verdict, cite: u64) -> Ended
 
 /// The ending of a transaction that aborted.
 fn end_aborted<A: Asker>(asker: &mut A, alloc: Global, ended: Ended) -> Abortion
-    requires { ended.levels ≡ A.levels asker.old }
+    requires tree { ended.levels ≡ A.levels asker.old }
+    requires told { IsEndTold (A.told asker.old) ended }
     ensures asks { line.Follows (spec.ending_of ended)
         (A.told asker.old) (A.told asker.new) (line.ended_by result.answer result.txn) }
     ensures same { result.txn ≡ Txn.Ended ended }
@@ -46,7 +47,8 @@ fn end_aborted<A: Asker>(asker: &mut A, alloc: Global, ended: Ended) -> Abortion
 /// answered with its verdict, and has no ending.
 /// After any fault it comes back in its state, with the votes that it had gathered, or ended as the desk told.
 pub fn abort<A: Asker>(asker: &mut A, alloc: Global, txn: Txn) -> Abortion
-    requires { states.levels_of txn ≡ A.levels asker.old }
+    requires tree { states.levels_of txn ≡ A.levels asker.old }
+    requires knows { Knows (A.told asker.old) txn }
     ensures asks { line.Follows (spec.abort_line txn)
         (A.told asker.old) (A.told asker.new) (line.ended_by result.answer result.txn) }
     ensures levels { states.levels_of result.txn ≡ states.levels_of txn }
@@ -68,6 +70,7 @@ pub fn abort<A: Asker>(asker: &mut A, alloc: Global, txn: Txn) -> Abortion
 fn resolve_and_end<A: Asker>(asker: &mut A, alloc: Global, txn: Txn, told: DeskTold) -> Abortion
     requires tree { states.levels_of txn ≡ A.levels asker.old }
     requires asked { told.ask ≡ DeskAsk.Resolve (states.number_of txn) }
+    requires knows { Knows (A.told asker.old) (spec.txn_after_resolve txn told) }
     ensures asks { line.Follows (spec.abort_end told.reply (spec.txn_after_resolve txn told))
         (A.told asker.old) (A.told asker.new) (line.ended_by result.answer result.txn) }
     ensures value { result.txn ≡ spec.txn_after_resolve txn told }

@@ -42,6 +42,8 @@ pub trait Asker {
     ghost use Rattle.tq_desk.specs.DeskStep.{HasGoodEvidence};
     ghost use Rattle.tq_txn.specs.declared.asker.Exchange.{Exchange};
     ghost use Rattle.tq_txn.specs.Dialogue.{node_exchange, desk_exchange, view_exchange};
+    ghost use Rattle.tq_txn.specs.Told.{IsVerdictTold, answers_in};
+    ghost use Rattle.tq_txn_states.specs.Voting.{CitesOnly};
 
     /// The asks in their order, each with what was told of it; not those that met want of memory.
     ghost told: { Self → List Exchange };
@@ -56,8 +58,18 @@ pub trait Asker {
         ensures same { IfOk result (λ t. (t.server ≡ server.number) × (t.ask ≡ ask)) }
         ensures tree { levels self.new ≡ levels self.old };
 
+    /// Tells a server a verdict that the desk told, as `node` asks it.
+    fn tell(&mut self, alloc: Global, server: ServerId, ask: NodeAsk) -> Result<NodeTold, AskFault>
+        requires of_tree { server.levels ≡ levels self.old }
+        requires verdict { IsVerdictTold (told self.old) ask }
+        ensures exchanges { told self.new
+            ≡ told self.old ++ node_exchange server.number ask result }
+        ensures same { IfOk result (λ t. (t.server ≡ server.number) × (t.ask ≡ ask)) }
+        ensures tree { levels self.new ≡ levels self.old };
+
     fn desk(&mut self, alloc: Global, ask: DeskAsk) -> Result<DeskTold, AskFault>
-        requires { HasGoodEvidence (levels self.old) ask }
+        requires evidence { HasGoodEvidence (levels self.old) ask }
+        requires founded { CitesOnly (answers_in (told self.old)) ask }
         ensures exchanges { told self.new ≡ told self.old ++ desk_exchange ask result }
         ensures same { IfOk result (λ t. t.ask ≡ ask) }
         ensures tree { levels self.new ≡ levels self.old };

@@ -90,14 +90,14 @@ fn refused(ready: Ready, refusal: DeskRefusal, cite: u64) -> Decision
 /// it read and wrote and with its votes, or ended where the desk said how it ended before.
 #[inline(always)]
 pub fn decide<A: Asker>(asker: &mut A, alloc: Global, voting: Voting) -> Decision
-    requires { voting.txn.levels ≡ A.levels asker.old }
+    requires tree { voting.txn.levels ≡ A.levels asker.old }
+    requires knows { Knows (A.told asker.old) (Txn.Voting voting) }
     ensures asks { line.Follows (spec.decide_line voting)
         (A.told asker.old) (A.told asker.new) (line.ended_by result.answer result.txn) }
     ensures levels { states.levels_of result.txn ≡ voting.txn.levels }
     ensures ending { IsEnding (Txn.Voting voting)
         (A.told asker.old) (A.told asker.new) result.txn }
-    ensures cited { Knows (A.told asker.old) (Txn.Voting voting)
-        → CitesSince (A.told asker.old) (A.told asker.new) }
+    ensures cited { CitesSince (A.told asker.old) (A.told asker.new) }
     ensures tree { A.levels asker.new ≡ A.levels asker.old }
 {
     let ready = match voting.ready() {
@@ -134,14 +134,14 @@ pub fn decide<A: Asker>(asker: &mut A, alloc: Global, voting: Voting) -> Decisio
 /// it before the desk is asked; where the desk refuses, there is no ending.
 /// After any fault it comes back with each vote gathered, or ended as the desk told.
 pub fn commit<A: Asker>(asker: &mut A, alloc: Global, voting: Voting) -> Decision
-    requires { voting.txn.levels ≡ A.levels asker.old }
+    requires tree { voting.txn.levels ≡ A.levels asker.old }
+    requires knows { Knows (A.told asker.old) (Txn.Voting voting) }
     ensures asks { line.Follows (spec.commit_line voting)
         (A.told asker.old) (A.told asker.new) (line.ended_by result.answer result.txn) }
     ensures levels { states.levels_of result.txn ≡ voting.txn.levels }
     ensures ending { IsEnding (Txn.Voting voting)
         (A.told asker.old) (A.told asker.new) result.txn }
-    ensures cited { Knows (A.told asker.old) (Txn.Voting voting)
-        → CitesSince (A.told asker.old) (A.told asker.new) }
+    ensures cited { CitesSince (A.told asker.old) (A.told asker.new) }
     ensures tree { A.levels asker.new ≡ A.levels asker.old }
 {
     let mut voting = voting;
@@ -163,7 +163,8 @@ pub fn commit<A: Asker>(asker: &mut A, alloc: Global, voting: Voting) -> Decisio
 
 /// The ending of a transaction that committed.
 fn end_committed<A: Asker>(asker: &mut A, alloc: Global, serial: u64, txn: Txn) -> Decision
-    requires { states.levels_of txn ≡ A.levels asker.old }
+    requires tree { states.levels_of txn ≡ A.levels asker.old }
+    requires knows { Knows (A.told asker.old) txn }
     ensures asks { line.Follows (spec.commit_end serial txn)
         (A.told asker.old) (A.told asker.new) (line.ended_by result.answer result.txn) }
     ensures same { result.txn ≡ txn }

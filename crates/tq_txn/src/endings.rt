@@ -2,10 +2,11 @@
 
 ghost use Rattle.std.specs.Prelude.{◌≡◌, ◌==◌, ◌≤◌, true, false, List, Some, None, Ok, IfOk, OnErr};
 ghost use Rattle.std.specs.List.{list_all};
+ghost use Rattle.std.specs.Result.{result_ok};
 ghost use Rattle.tq_coterie.specs.Coterie.{numbers_of};
 ghost use Rattle.tq_txn.specs.Dialogue as line;
 ghost use Rattle.tq_txn.specs.Lines as spec;
-ghost use Rattle.tq_txn.specs.Told.{IsKnown};
+ghost use Rattle.tq_txn.specs.Told.{IsEndTold, IsKnown};
 ghost use Rattle.tq_txn.specs.declared.asker.Exchange.{Exchange};
 ghost use Rattle.tq_txn_states.specs.Voting.{AddsVote, IsVotedOn, has_vote};
 ghost use Rattle.tq_txn_states.specs.Ended.{decide_ask};
@@ -94,7 +95,16 @@ pub fn ask_any<A: Asker>(
         (A.told asker.old) (A.told asker.new) None) }
     ensures tree { A.levels asker.new ≡ A.levels asker.old }
 {
-    match asker.node(alloc, server, ask) {
+    let told = asker.node(alloc, server, ask);
+    any_answer(told)
+}
+
+/// The reply in what was told of an ask, or none where that was not taken.
+#[inline(always)]
+fn any_answer(told: Result<NodeTold, AskFault>) -> Result<Option<NodeReply>, Memory>
+    ensures { result_ok result ≡ spec.any_answer told }
+{
+    match told {
         Ok(told) => Ok(Some(told.reply)),
         Err(AskFault::Memory) => Err(AllocError),
         Err(AskFault::JournalFull { .. }) => Ok(None),
@@ -153,13 +163,15 @@ fn end_at<A: Asker>(
     server: ServerId,
 ) -> Result<(), LineFault>
     requires of_tree { server.levels ≡ A.levels asker.old }
+    requires told { IsEndTold (A.told asker.old) ended.now }
     requires decide { decide.now ≡ decide_ask ended.now }
     ensures asks { line.Follows (spec.end_line ended.now server.number)
         (A.told asker.old) (A.told asker.new) (line.ended_by result tt) }
     ensures tree { A.levels asker.new ≡ A.levels asker.old }
 {
     let ask = decide_again(ended, decide)?;
-    match ask_any(asker, alloc, server, ask) {
+    let told = asker.tell(alloc, server, ask);
+    match any_answer(told) {
         Ok(reply) => release_at(asker, alloc, ended.txn(), server, is_nothing_here(&reply)),
         Err(_) => Err(LineFault::Memory),
     }
@@ -175,6 +187,7 @@ fn end_by<A: Asker>(
     servers: &[ServerId],
 ) -> Result<(), LineFault>
     requires of_tree { list_all (λ id. id.levels == A.levels asker.old) servers.now ≡ true }
+    requires told { IsEndTold (A.told asker.old) ended.now }
     requires decide { decide.now ≡ decide_ask ended.now }
     ensures asks { line.Follows (spec.ending_line ended.now (numbers_of servers.now))
         (A.told asker.old) (A.told asker.new) (line.ended_by result tt) }
@@ -194,7 +207,8 @@ pub(crate) fn end_at_each<A: Asker>(
     ended: &Ended,
     servers: &[ServerId],
 ) -> Result<(), LineFault>
-    requires { list_all (λ id. id.levels == A.levels asker.old) servers.now ≡ true }
+    requires of_tree { list_all (λ id. id.levels == A.levels asker.old) servers.now ≡ true }
+    requires told { IsEndTold (A.told asker.old) ended.now }
     ensures asks { line.Follows (spec.ending_line ended.now (numbers_of servers.now))
         (A.told asker.old) (A.told asker.new) (line.ended_by result tt) }
     ensures tree { A.levels asker.new ≡ A.levels asker.old }

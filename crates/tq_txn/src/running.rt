@@ -3,6 +3,7 @@
 ghost use Rattle.std.specs.Prelude.{◌≡◌, None, IfSome, IfOk};
 ghost use Rattle.std.specs.Result.{result_ok};
 ghost use Rattle.tq_txn.specs.Dialogue.{Follows};
+ghost use Rattle.tq_txn.specs.Told.{IsOpenIn};
 ghost use Rattle.tq_txn.specs.Script as spec;
 
 use crate::operating::{ask_view, mark};
@@ -48,10 +49,10 @@ fn run_line<A: Asker>(
     line: &Line,
 ) -> Result<Option<Open>, Memory>
     requires tree { A.levels asker.old ≡ levels }
-    requires txn { IfSome open_txn (λ o. o.levels ≡ levels) }
+    requires txn { IfSome open_txn (IsOpenIn levels (A.told asker.old)) }
     ensures asks { Follows (spec.line_asked levels limits line.now open_txn)
         (A.told asker.old) (A.told asker.new) (result_ok result) }
-    ensures levels { IfOk result (λ txn. IfSome txn (λ o. o.levels ≡ levels)) }
+    ensures txn { IfOk result (λ txn. IfSome txn (IsOpenIn levels (A.told asker.new))) }
     ensures tree { A.levels asker.new ≡ A.levels asker.old }
 {
     match line {
@@ -88,9 +89,11 @@ fn view_beside<A: Asker>(
     open_txn: Option<Open>,
     ask: ViewAsk,
 ) -> Result<Option<Open>, Memory>
+    requires { IfSome open_txn (IsOpenIn (A.levels asker.old) (A.told asker.old)) }
     ensures asks { Follows (spec.leaving open_txn (spec.view_asked ask))
         (A.told asker.old) (A.told asker.new) (result_ok result) }
-    ensures same { IfOk result (λ txn. txn ≡ open_txn) }
+    ensures txn { IfOk result (λ txn.
+        IfSome txn (IsOpenIn (A.levels asker.old) (A.told asker.new))) }
     ensures tree { A.levels asker.new ≡ A.levels asker.old }
 {
     ask_view(asker, alloc, ask)?;
@@ -106,10 +109,11 @@ fn mark_beside<A: Asker>(
     server: u64,
     up: bool,
 ) -> Result<Option<Open>, Memory>
-    requires { A.levels asker.old ≡ levels }
+    requires tree { A.levels asker.old ≡ levels }
+    requires txn { IfSome open_txn (IsOpenIn levels (A.told asker.old)) }
     ensures asks { Follows (spec.leaving open_txn (spec.mark_asked levels server up))
         (A.told asker.old) (A.told asker.new) (result_ok result) }
-    ensures same { IfOk result (λ txn. txn ≡ open_txn) }
+    ensures txn { IfOk result (λ txn. IfSome txn (IsOpenIn levels (A.told asker.new))) }
     ensures tree { A.levels asker.new ≡ A.levels asker.old }
 {
     mark(asker, alloc, levels, server, up)?;

@@ -1,8 +1,9 @@
 //! The lines of a client's transaction.
-ghost use Rattle.std.specs.Prelude.{◌≡◌, None, IfSome, IfOk};
+ghost use Rattle.std.specs.Prelude.{◌≡◌, List, None, IfSome, IfOk};
 ghost use Rattle.std.specs.Result.{result_ok};
 ghost use Rattle.tq_txn.specs.Dialogue.{Follows};
-ghost use Rattle.tq_txn.specs.Told.{levels_of};
+ghost use Rattle.tq_txn.specs.Told.{IsOpenIn, Knows, levels_of};
+ghost use Rattle.tq_txn.specs.declared.asker.Exchange.{Exchange};
 ghost use Rattle.tq_txn.specs.Script as spec;
 
 use crate::{
@@ -27,7 +28,8 @@ fn was_answered<T: Drop>(answer: Result<T, LineFault>) -> Result<bool, Memory>
 
 /// Aborts a transaction, whatever is answered: then none is open.
 fn give_up<A: Asker>(asker: &mut A, alloc: Global, txn: Txn) -> Result<Option<Open>, Memory>
-    requires { levels_of txn ≡ A.levels asker.old }
+    requires tree { levels_of txn ≡ A.levels asker.old }
+    requires knows { Knows (A.told asker.old) txn }
     ensures asks { Follows (spec.given_up txn)
         (A.told asker.old) (A.told asker.new) (result_ok result) }
     ensures none { IfOk result (λ left. left ≡ None) }
@@ -47,7 +49,7 @@ pub(crate) fn close<A: Asker>(
     alloc: Global,
     open_txn: Option<Open>,
 ) -> Result<Option<Open>, Memory>
-    requires { IfSome open_txn (λ o. o.levels ≡ A.levels asker.old) }
+    requires { IfSome open_txn (IsOpenIn (A.levels asker.old) (A.told asker.old)) }
     ensures asks { Follows (spec.closing open_txn)
         (A.told asker.old) (A.told asker.new) (result_ok result) }
     ensures none { IfOk result (λ left. left ≡ None) }
@@ -67,7 +69,7 @@ fn txn_of_answer(
     answer: Result<DeskTold, AskFault>,
 ) -> Result<Option<Open>, Memory>
     ensures value { result_ok result ≡ spec.txn_of_answer levels limits answer }
-    ensures levels { IfOk result (λ txn. IfSome txn (λ o. o.levels ≡ levels)) }
+    ensures txn { (told : List Exchange) → IfOk result (λ txn. IfSome txn (IsOpenIn levels told)) }
 {
     match answer {
         Ok(told) => Ok(txn_of_reply(alloc, levels, limits, told.reply)),
@@ -79,7 +81,7 @@ fn txn_of_answer(
 
 fn txn_of_reply(alloc: Global, levels: Levels, limits: Limits, reply: DeskReply) -> Option<Open>
     ensures value { result ≡ spec.txn_of_reply levels limits reply }
-    ensures levels { IfSome result (λ o. o.levels ≡ levels) }
+    ensures txn { (told : List Exchange) → IfSome result (IsOpenIn levels told) }
 {
     match reply {
         DeskReply::Txn(number) => Some(Open::new(alloc, levels, limits, number)),
@@ -95,10 +97,10 @@ pub(crate) fn begin<A: Asker>(
     limits: Limits,
     open_txn: Option<Open>,
 ) -> Result<Option<Open>, Memory>
-    requires { IfSome open_txn (λ o. o.levels ≡ A.levels asker.old) }
+    requires { IfSome open_txn (IsOpenIn (A.levels asker.old) (A.told asker.old)) }
     ensures asks { Follows (spec.begin_asked levels limits open_txn)
         (A.told asker.old) (A.told asker.new) (result_ok result) }
-    ensures levels { IfOk result (λ txn. IfSome txn (λ o. o.levels ≡ levels)) }
+    ensures txn { IfOk result (λ txn. IfSome txn (IsOpenIn levels (A.told asker.new))) }
     ensures tree { A.levels asker.new ≡ A.levels asker.old }
 {
     let _none = close(asker, alloc, open_txn)?;
@@ -113,7 +115,7 @@ fn ask_begin<A: Asker>(
 ) -> Result<Option<Open>, Memory>
     ensures asks { Follows (spec.desk_begun levels limits)
         (A.told asker.old) (A.told asker.new) (result_ok result) }
-    ensures levels { IfOk result (λ txn. IfSome txn (λ o. o.levels ≡ levels)) }
+    ensures txn { IfOk result (λ txn. IfSome txn (IsOpenIn levels (A.told asker.new))) }
     ensures tree { A.levels asker.new ≡ A.levels asker.old }
 {
     let answer = asker.desk(alloc, DeskAsk::Begin);
@@ -127,10 +129,11 @@ fn after<A: Asker>(
     open_txn: Open,
     answered: bool,
 ) -> Result<Option<Open>, Memory>
-    requires { open_txn.levels ≡ A.levels asker.old }
+    requires { IsOpenIn (A.levels asker.old) (A.told asker.old) open_txn }
     ensures asks { Follows (spec.after answered open_txn)
         (A.told asker.old) (A.told asker.new) (result_ok result) }
-    ensures levels { IfOk result (λ txn. IfSome txn (λ o. o.levels ≡ A.levels asker.old)) }
+    ensures txn { IfOk result (λ txn.
+        IfSome txn (IsOpenIn (A.levels asker.old) (A.told asker.new))) }
     ensures tree { A.levels asker.new ≡ A.levels asker.old }
 {
     if answered {
@@ -146,10 +149,11 @@ pub(crate) fn read<A: Asker>(
     open_txn: Option<Open>,
     file: &FileName,
 ) -> Result<Option<Open>, Memory>
-    requires { IfSome open_txn (λ o. o.levels ≡ A.levels asker.old) }
+    requires { IfSome open_txn (IsOpenIn (A.levels asker.old) (A.told asker.old)) }
     ensures asks { Follows (spec.in_open (spec.read_asked file.now) open_txn)
         (A.told asker.old) (A.told asker.new) (result_ok result) }
-    ensures levels { IfOk result (λ txn. IfSome txn (λ o. o.levels ≡ A.levels asker.old)) }
+    ensures txn { IfOk result (λ txn.
+        IfSome txn (IsOpenIn (A.levels asker.old) (A.told asker.new))) }
     ensures tree { A.levels asker.new ≡ A.levels asker.old }
 {
     let Some(txn) = open_txn else {
@@ -169,10 +173,11 @@ pub(crate) fn write<A: Asker>(
     file: &FileName,
     content: &Content,
 ) -> Result<Option<Open>, Memory>
-    requires { IfSome open_txn (λ o. o.levels ≡ A.levels asker.old) }
+    requires { IfSome open_txn (IsOpenIn (A.levels asker.old) (A.told asker.old)) }
     ensures asks { Follows (spec.in_open (spec.write_asked file.now content.now) open_txn)
         (A.told asker.old) (A.told asker.new) (result_ok result) }
-    ensures levels { IfOk result (λ txn. IfSome txn (λ o. o.levels ≡ A.levels asker.old)) }
+    ensures txn { IfOk result (λ txn.
+        IfSome txn (IsOpenIn (A.levels asker.old) (A.told asker.new))) }
     ensures tree { A.levels asker.new ≡ A.levels asker.old }
 {
     let Some(txn) = open_txn else {
@@ -191,7 +196,7 @@ pub(crate) fn commit_open<A: Asker>(
     alloc: Global,
     open_txn: Option<Open>,
 ) -> Result<Option<Open>, Memory>
-    requires { IfSome open_txn (λ o. o.levels ≡ A.levels asker.old) }
+    requires { IfSome open_txn (IsOpenIn (A.levels asker.old) (A.told asker.old)) }
     ensures asks { Follows (spec.in_open spec.commit_asked open_txn)
         (A.told asker.old) (A.told asker.new) (result_ok result) }
     ensures none { IfOk result (λ left. left ≡ None) }

@@ -31,12 +31,6 @@ pub cast_some : (txn server number : ℕ) (ask : NodeAsk) (held : List HeldLock)
 cast_some txn server number (Work (Prepare voter asked)) held writes is = rw is refl
 cast_some txn server number ask held writes is = absurd (false≢true is)
 
--- a cause that is told exactly
-pub comes_if : {A : Type 0} (result : Result A TxnFault) (cause : Option TxnFault) → IfErr result (λ fault. cause ≡ Some fault) → IfErr result (λ fault. ComesOf cause fault)
-comes_if (Ok a) cause is = tt
-comes_if (Err Memory) cause is = tt
-comes_if (Err fault) cause is = is
-
 -- ---- kept votes
 
 either : (a b c : Bool) → (b ≡ true → c ≡ true) → (a || b) ≡ true → (a || c) ≡ true

@@ -2,22 +2,20 @@
 
 ghost use Rattle.std.specs.Prelude.{◌≡◌, IfOk, IfErr, None, Some, MatchResult};
 ghost use Rattle.tq_coterie.specs.Coterie.{numbers_of};
-ghost use Rattle.tq_desk.specs.DeskStep as log;
 ghost use Rattle.tq_txn_states.specs.Ended as spec;
 ghost use Rattle.tq_txn_states.specs.Open.{ComesOf};
 ghost use Rattle.tq_txn_states.specs.Open as sets;
 
 use crate::servers::Servers;
-use crate::{DeskTold, Open, TxnFault};
+use crate::{DeskTold, TxnFault};
 use std::alloc::Global;
 use std::marker::Model;
-use tq_asks::{CitedVote, NodeAsk, Verdict, WorkAsk};
-use tq_desk::{DeskAsk, DeskRefusal, DeskReply, Vote};
-use tq_shape::{Levels, Memory, ServerId, Shared, SharedSeq};
+use tq_asks::{NodeAsk, Verdict, WorkAsk};
+use tq_desk::{DeskAsk, DeskRefusal, DeskReply, Vote, cited_votes};
+use tq_shape::{Levels, Memory, ServerId, Shared};
 
 /// A transaction that has ended.
 pub struct Ended {
-    levels: Levels,
     txn: u64,
     verdict: Verdict,
     cite: u64,
@@ -28,7 +26,6 @@ pub struct Ended {
 impl Drop for Ended {
     fn drop(self) {
         let Self {
-            levels: _,
             txn: _,
             verdict: _,
             cite: _,
@@ -38,34 +35,34 @@ impl Drop for Ended {
 }
 
 impl Model for Ended {
-    ghost use Rattle.std.specs.Prelude.{◌≡◌};
     ghost use Rattle.tq_txn_states.specs.Ended.{EndedView};
 
     ghost Value = { EndedView };
 
     ghost view = { λ a. record {
-      levels = a.levels;
+      levels = a.servers.levels;
       txn = a.txn;
       verdict = a.verdict;
       cite = a.cite;
       servers = a.servers.servers;
     } };
-
-    ghost invariant = { λ a. a.servers.levels ≡ a.levels };
 }
 
 impl Ended {
-    /// The transaction as a verdict ends it, which the desk's entry of that number told. It takes no memory.
+    /// The transaction of that number, which these servers granted a lock, as a verdict ends it, which the desk's entry of
+    /// that number told. It takes no memory.
     #[inline(always)]
-    pub(crate) fn of(txn: Open, verdict: Verdict, cite: u64) -> Ended
-        ensures { result ≡ spec.ended_with txn cite verdict }
+    pub(crate) fn of(txn: u64, servers: Servers, verdict: Verdict, cite: u64) -> Ended
+        ensures { result ≡ record {
+          levels = servers.levels;
+          txn = txn;
+          verdict = verdict;
+          cite = cite;
+          servers = servers.servers;
+        } }
     {
-        let levels = txn.levels();
-        let number = txn.txn();
-        let servers = txn.into_touched();
         Ended {
-            levels,
-            txn: number,
+            txn,
             verdict,
             cite,
             servers,
@@ -76,7 +73,7 @@ impl Ended {
     pub fn levels(&self) -> Levels
         ensures { result ≡ self.now.levels }
     {
-        self.levels
+        self.servers.levels()
     }
 
     /// The number of the transaction.
@@ -169,7 +166,7 @@ fn commit_verdict(
 {
     match reply {
         DeskReply::Committed { .. } => Ok(Some(Verdict::Commit {
-            votes: SharedSeq::from_vec(cited_votes(alloc, votes)?)?,
+            votes: cited_votes(alloc, votes)?,
         })),
         DeskReply::Refused(DeskRefusal::Decided(verdict)) => Ok(Some(verdict.clone()?)),
         _ => Ok(None),
@@ -184,19 +181,4 @@ fn resolve_verdict(reply: &DeskReply) -> Result<Option<Verdict>, Memory>
         DeskReply::Verdict(verdict) => Ok(Some(verdict.clone()?)),
         _ => Ok(None),
     }
-}
-
-/// The votes as a commit's record cites them.
-#[inline(always)]
-pub(crate) fn cited_votes(alloc: Global, votes: &[Vote]) -> Result<Vec<CitedVote>, Memory>
-    ensures { IfOk result (λ list. list.items ≡ log.cited_votes votes.now) }
-{
-    let mut cited = Vec::with_capacity(alloc, votes.len())?;
-    for vote in votes {
-        cited.push_reserved(CitedVote {
-            server: vote.server,
-            number: vote.number,
-        });
-    }
-    Ok(cited)
 }

@@ -3,6 +3,7 @@
 //! Definitions: `specs/Open`, `Voting`, `Ended`.
 #![tactic(auto)]
 
+mod closed;
 mod ended;
 mod fault;
 mod grants;
@@ -13,6 +14,7 @@ mod told;
 mod votes;
 mod voting;
 
+pub use closed::Closed;
 pub use ended::Ended;
 pub use fault::TxnFault;
 pub use open::Open;

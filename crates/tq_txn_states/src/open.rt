@@ -15,7 +15,7 @@ ghost use Rattle.tq_txn_states.specs.Ended as ending;
 use crate::ended::verdict_of;
 use crate::grants::{grants_of, read_copy};
 use crate::servers::{Servers, put_at};
-use crate::{DeskTold, Ended, NodeTold, TxnFault, Voting};
+use crate::{Closed, DeskTold, Ended, NodeTold, TxnFault, Voting};
 use std::alloc::Global;
 use std::marker::Model;
 use tq_asks::Verdict;
@@ -211,7 +211,7 @@ impl Open {
             kind: OpKind::Read,
             version: copy.version,
             content,
-            grants: share_grants(grants),
+            grants: Shareable::from_vec(grants),
         };
         self.take(op)?;
         Ok(copy)
@@ -244,7 +244,7 @@ impl Open {
             kind: OpKind::Write,
             version,
             content,
-            grants: share_grants(grants),
+            grants: Shareable::from_vec(grants),
         };
         self.take(op)?;
         Ok(version)
@@ -318,7 +318,8 @@ impl Open {
         if self.ops.is_empty() {
             return Err((self, TxnFault::NoOps));
         }
-        Ok(Voting::new(self))
+        let alloc = *self.ops.allocator();
+        Ok(Voting::new(alloc, self.into_closed()))
     }
 
     /// Ends the transaction by the desk's verdict on it, and hands it back after a fault.
@@ -336,27 +337,30 @@ impl Open {
     pub fn end_by(self, verdict: Verdict, cite: u64) -> Ended
         ensures { result ≡ ending.ended_with self cite verdict }
     {
-        Ended::of(self, verdict, cite)
+        self.into_closed().end_by(verdict, cite)
     }
 
-    pub(crate) fn allocator(&self) -> Global {
-        *self.ops.allocator()
-    }
-
-    /// The set of the servers that granted it a lock.
-    pub(crate) fn into_touched(self) -> Servers
-        ensures servers { result.servers ≡ self.touched }
-        ensures levels { result.levels ≡ self.levels }
+    /// The transaction as it stands, which takes no more operations. It takes no memory.
+    #[inline(always)]
+    fn into_closed(self) -> Closed
+        ensures { result ≡ self }
     {
         let Self {
-            levels: _,
-            limits: _,
-            txn: _,
-            ops: _,
-            voters: _,
+            levels,
+            limits,
+            txn,
+            ops,
+            voters,
             touched,
         } = self;
-        touched
+        Closed {
+            levels,
+            limits,
+            txn,
+            ops: Shareable::from_vec(ops),
+            voters,
+            touched,
+        }
     }
 
     fn is_used(&self, file: &FileName) -> bool
@@ -446,15 +450,6 @@ fn write_place(ops: &[Op], file: &FileName) -> Option<usize>
     ensures within { IfSome result (λ place. place < length ops.now) }
 {
     ops.iter().position(|op| op.writes(file))
-}
-
-/// The grants of an operation, which its clones share. Where memory for that is refused, each clone copies them.
-fn share_grants(grants: Vec<Grant>) -> Shareable<Grant>
-    ensures { result ≡ grants.items }
-{
-    let mut list = Shareable::from_vec(grants);
-    let _unless_refused = list.share();
-    list
 }
 
 /// Puts the operation before those of later files, in a list that has room.

@@ -8,12 +8,12 @@ ghost use Rattle.tq_txn_states.specs.Ended as ending;
 ghost use Rattle.tq_txn_states.specs.Open.{ComesOf, IsBack};
 ghost use Rattle.tq_txn_states.specs.Voting as spec;
 
-use crate::ended::{cited_votes, verdict_of};
+use crate::ended::verdict_of;
 use crate::{DeskTold, Ended, NodeTold, TxnFault, Voting};
 use std::alloc::Global;
 use std::marker::Model;
 use tq_asks::{CitedVote, Verdict};
-use tq_desk::DeskAsk;
+use tq_desk::{DeskAsk, cited_votes};
 use tq_shape::{ExactClone, Memory, SharedSeq};
 
 /// A transaction with the votes of all its voters.
@@ -72,8 +72,8 @@ impl Ready {
         ensures good { evidence.IsGood self.now.txn.levels self.now.txn.ops self.now.votes }
     {
         let txn = self.voting.txn();
-        let (all_ops, all_votes) = (txn.ops(), self.voting.votes());
-        let ops = copy_of(alloc, all_ops)?;
+        let all_votes = self.voting.votes();
+        let ops = txn.shared_ops()?;
         let votes = copy_of(alloc, all_votes)?;
         Ok(DeskAsk::Commit {
             txn: txn.txn(),
@@ -88,7 +88,7 @@ impl Ready {
     pub fn citations(&self, alloc: Global) -> Result<SharedSeq<CitedVote>, Memory>
         ensures { IfOk result (λ list. list ≡ log.cited_votes self.now.votes) }
     {
-        Ok(SharedSeq::from_vec(cited_votes(alloc, self.voting.votes())?)?)
+        cited_votes(alloc, self.voting.votes())
     }
 
     /// Ends the transaction by the desk's verdict on it, and hands it back after a fault.

@@ -47,6 +47,12 @@ impl Servers {
         }
     }
 
+    pub(crate) fn levels(&self) -> Levels
+        ensures { result ≡ self.now.levels }
+    {
+        self.levels
+    }
+
     pub(crate) fn as_slice(&self) -> &[ServerId]
         ensures numbers { numbers_of result.now ≡ self.now.servers }
         ensures set { IsServerSet self.now.levels result.now }

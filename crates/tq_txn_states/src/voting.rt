@@ -15,7 +15,7 @@ use crate::votes::{
     Cast, are_writes_at, cast_in, has_vote, has_votes, is_ask_at, lost_file, place_of_server,
     put_vote, writes_all_at, writes_at,
 };
-use crate::{DeskTold, Ended, NodeTold, Open, Ready, TxnFault};
+use crate::{Closed, DeskTold, Ended, NodeTold, Ready, TxnFault};
 use std::alloc::Global;
 use std::marker::Model;
 use tq_asks::{NodeAsk, Verdict, WorkAsk};
@@ -24,7 +24,7 @@ use tq_shape::{Memory, ServerId, Shared};
 
 /// A transaction that gathers votes.
 pub struct Voting {
-    txn: Open,
+    txn: Closed,
     votes: Vec<Vote>,
     /// An ask with all that the transaction writes: that of each server where it writes all of it. Contracts do not see it.
     asked: Option<NodeAsk>,
@@ -54,20 +54,19 @@ impl Model for Voting {
 
 impl Voting {
     /// A transaction that has operations, and no vote yet.
-    pub(crate) fn new(txn: Open) -> Voting
+    pub(crate) fn new(alloc: Global, txn: Closed) -> Voting
         requires { evidence.is_some_op txn.ops ≡ true }
         ensures { result ≡ spec.voting_of txn }
     {
-        let votes = Vec::new(txn.allocator());
         Voting {
             txn,
-            votes,
+            votes: Vec::new(alloc),
             asked: None,
         }
     }
 
     /// The transaction as it was closed.
-    pub fn txn(&self) -> &Open
+    pub fn txn(&self) -> &Closed
         ensures { result.now ≡ self.now.txn }
     {
         &self.txn
@@ -171,13 +170,15 @@ impl Voting {
         self.vote_by(answer)
     }
 
-    /// Makes room for the votes of all voters, where there is none yet. Nothing else changes.
+    /// Makes room for the votes of all voters, and has the operations be shared, where there is no vote yet. Nothing else
+    /// changes.
     pub fn room_for_votes(&mut self) -> Result<(), Memory>
         ensures { self.new ≡ self.old }
     {
         if !self.votes.is_empty() {
             return Ok(());
         }
+        self.txn.share()?;
         self.votes.reserve_exact(self.txn.voters().len())?;
         Ok(())
     }
@@ -274,6 +275,6 @@ impl Voting {
             votes: _,
             asked: _,
         } = self;
-        Ended::of(txn, verdict, cite)
+        txn.end_by(verdict, cite)
     }
 }

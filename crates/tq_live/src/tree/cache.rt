@@ -1,6 +1,6 @@
 //! What a server keeps of its subtree, with the count of caches written.
 
-ghost use Rattle.std.specs.Prelude.{◌≡◌, ◌+◌, ◌*◌, ◌^◌, ◌<◌, ◌≤◌, ◌↔◌, IfSome, Some, None, cond, is_some, IsTrue};
+ghost use Rattle.std.specs.Prelude.{◌≡◌, ◌+◌, ◌*◌, ◌^◌, ◌<◌, ◌≤◌, ◌↔◌, IfSome, Some, None, cond, IsTrue};
 ghost use Rattle.tq_live.specs.Subtree.{Over, leaves};
 ghost use Rattle.tq_live.specs.Kept.{cache_of, column_over, least_kept, form_kept, blocker_weight, IsLight, form_of, subtree_of};
 ghost use Rattle.tq_live.specs.Kept as spec;

@@ -96,6 +96,7 @@ impl Node {
             .map(|write| write.file)
     }
 
+    #[inline(always)]
     pub(super) fn prepare_refusal(&self, txn: u64, writes: &[Write]) -> Option<NodeRefusal>
         ensures { result ≡ spec.prepare_refusal self.now.state.records txn writes.now }
     {

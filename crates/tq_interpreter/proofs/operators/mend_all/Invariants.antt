@@ -2,6 +2,7 @@ use Rattle.std.proofs.Common.{◌≡◌, ◌≤◌, ◌+◌, drop, length}
 use Rattle.std.specs.List.{flat_map}
 use Rattle.tq_refresh.specs.Plan.{jobs_in, jobs_of_plan}
 use Rattle.tq_interpreter.specs.Answer.{LeadsOn, behind, nothing_mended, so_far}
+use Rattle.tq_interpreter.specs.Known.{IsLater}
 use Rattle.tq_text.specs.Print.{Extends}
 use Rattle.tq_interpreter.proofs.operators.mend_all.Given as goal
 
@@ -13,5 +14,5 @@ invariant-loop-of_file l = record {
   jobs : l.counts.jobs + length (flat_map (jobs_in l.plan.up) (drop l.of_file-index l.of_file-items)) ≡ length (jobs_of_plan l.plan);
   fits : (l.counts.mended ≤ l.counts.jobs) × (l.counts.jobs ≤ length l.text.items);
   begun : Extends l.fn.text.items l.text.items;
-  tree : l.recorder.journals.levels ≡ l.fn.recorder.journals.levels;
+  later : IsLater l.fn.recorder l.recorder;
 }

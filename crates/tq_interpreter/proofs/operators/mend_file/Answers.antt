@@ -10,6 +10,7 @@ use Rattle.tq_refresh.proofs.Walked.{left_of_tree, of_one_tree, walks-passed, wa
 use Rattle.tq_text.specs.Print.{printed_line}
 use Rattle.tq_interpreter.specs.Answer.{job_text}
 use Rattle.tq_interpreter.proofs.Recording.{counted_fits, leads_from, longer, one_on}
+use Rattle.tq_interpreter.proofs.ShellLines.{later_none, later_on}
 use Rattle.tq_text.proofs.Extended.{extends_more}
 use Rattle.tq_interpreter.proofs.operators.mend_file.Goals as goal
 
@@ -17,7 +18,7 @@ pub mend-requires-clause-of_tree : goal.mend-requires-clause-of_tree
 mend-requires-clause-of_tree c =
     let before = c.loop-server.invariant in
     let On : Server → Type 0 = λ server. server.levels ≡ c.args.up.now.levels in
-    (All-head On _ _ (subst (All On) c.in-Some.ensures.steps before.of_tree) ∙ c.requires.up ∙ sym before.tree, c.requires.planned.1 ∙ sym before.tree)
+    (All-head On _ _ (subst (All On) c.in-Some.ensures.steps before.of_tree) ∙ c.requires.up ∙ sym before.later.tree, c.requires.planned.1 ∙ sym before.later.tree)
 
 pub mend-requires-clause-peek : goal.mend-requires-clause-peek
 mend-requires-clause-peek c = c.in_ok-ask.ensures ∙ c.loop-server.invariant.peek
@@ -31,7 +32,7 @@ loop-server-init c =
       jobs = ap (λ servers. c.args.counts.now.jobs + length (jobs servers)) start;
       fits = c.requires.fits;
       of_tree = of_one_tree _ _ _ _ start (c.requires.planned.0 ∙ sym c.requires.up);
-      tree = refl;
+      later = later_none c.args.recorder.now;
       peek = c.in_ok-peek.ensures;
       front = c.in_ok-said.ensures.front;
       back = c.in_ok-said.ensures.back;
@@ -50,7 +51,7 @@ loop-server-preserved-then-contains c =
       jobs = omega (arith, before.jobs, ap length passes);
       fits = (rw c.from.ensures (counted_fits c.in_ok-refreshed.refreshed c.loop-server.counts.mended c.loop-server.counts.jobs before.fits.0), omega (arith, before.fits.1, longer _ _ (job_text (job c.in-Some.server) c.in_ok-refreshed.refreshed) said));
       of_tree = left_of_tree c.args.up.now.levels _ _ _ c.in-Some.ensures.steps before.of_tree;
-      tree = c.in_ok-refreshed.ensures.tree ∙ before.tree;
+      later = later_on _ _ _ before.later c.in_ok-refreshed.ensures.later;
       peek = before.peek;
       front = before.front;
       back = before.back;
@@ -67,7 +68,7 @@ loop-server-preserved c =
       jobs = ap (λ js. c.loop-server.counts.jobs + length js) (sym passed) ∙ before.jobs;
       fits = before.fits;
       of_tree = left_of_tree c.args.up.now.levels _ _ _ c.in-Some.ensures.steps before.of_tree;
-      tree = before.tree;
+      later = before.later;
       peek = before.peek;
       front = before.front;
       back = before.back;

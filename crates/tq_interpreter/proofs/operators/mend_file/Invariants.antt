@@ -5,6 +5,7 @@ use Rattle.tq_shape.specs.Tree.{Server}
 use Rattle.tq_refresh.specs.declared.job.Job.{Job}
 use Rattle.tq_refresh.specs.Plan.{jobs_from, jobs_in, peek_of}
 use Rattle.tq_interpreter.specs.Answer.{LeadsOn, so_far, mended_front, mended_back}
+use Rattle.tq_interpreter.specs.Known.{IsLater}
 use Rattle.tq_text.specs.Print.{Extends}
 use Rattle.tq_interpreter.proofs.operators.mend_file.Given as goal
 
@@ -18,7 +19,7 @@ invariant-loop-server l = record {
       ≡ l.fn.counts.jobs + length (jobs_in l.up l.of_file);
   fits : (l.counts.mended ≤ l.counts.jobs) × (l.counts.jobs ≤ length l.text.items);
   of_tree : All (λ server. server.levels ≡ l.up.levels) l.server-iterator;
-  tree : l.recorder.journals.levels ≡ l.fn.recorder.journals.levels;
+  later : IsLater l.fn.recorder l.recorder;
   peek : l.peek ≡ peek_of l.of_file.file;
   front : l.said.front.items ≡ mended_front l.of_file.file;
   back : l.said.back.items ≡ mended_back l.of_file.source.number;

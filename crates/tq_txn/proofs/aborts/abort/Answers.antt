@@ -5,11 +5,19 @@ use Rattle.tq_txn.specs.Dialogue.{ended_by}
 use Rattle.tq_txn.specs.Told.{number_of}
 use Rattle.tq_txn.proofs.EndLaws.{abort_on, abort_off}
 use Rattle.tq_txn.proofs.Deskless.{deskless_untold, deskless_abort_end}
-use Rattle.tq_txn.proofs.CommitLaws.{ending_answered, ending_refused, levels_still}
+use Rattle.tq_txn.proofs.CommitLaws.{ending_answered, ending_refused, levels_still, untold_none}
 use Rattle.tq_txn.proofs.aborts.abort.Goals as goal
 
 pub resolve_and_end-requires-clause-asked : goal.resolve_and_end-requires-clause-asked
 resolve_and_end-requires-clause-asked g c = c.in-Ok.ensures.same ∙ ap Resolve c.number-number.ensures
+
+pub resolve_and_end-requires-clause-knows : goal.resolve_and_end-requires-clause-knows
+resolve_and_end-requires-clause-knows g c =
+    let old = c.args.txn in
+    let now = g.A.Asker.told c.args.asker.now in
+    let new = g.A.Asker.told c.desk.new.self in
+    let told = c.in-Ok.told in
+    (ending_answered old (txn_after_resolve old told) (Resolve c.number-number.result) told now new new c.in-Ok.ensures.same c.in-Ok.ensures.exchanges refl (untold_none old new)).knows c.requires.knows
 
 pub returns-in-Err : goal.returns-in-Err
 returns-in-Err g c =

@@ -7,6 +7,9 @@ use Rattle.tq_txn.proofs.Deskless.{deskless_cites, deskless_commit_end, deskless
 use Rattle.tq_txn.proofs.KnownLaws.{cites_on}
 use Rattle.tq_txn.proofs.commits.commit.Goals as goal
 
+pub end_committed-requires-clause-knows : goal.end_committed-requires-clause-knows
+end_committed-requires-clause-knows g c = c.decide-answer.ensures.ending.knows (c.prepare_each.ensures.knows c.requires.knows)
+
 pub returns-in-Err : goal.returns-in-Err
 returns-in-Err g c =
     let voting = c.args.voting in
@@ -23,7 +26,7 @@ returns-in-Err g c =
       asks = commit_off voting voted now mid fault c.in-Err.ensures.asks;
       levels = search rules;
       ending = ending_voted voting voted (states.Voting voted) now mid mid votes.kept votes.knows untold (ending_none (states.Voting voted) (states.Voting voted) mid refl);
-      cited = λ is. deskless_cites line now mid end deskless votes.asks;
+      cited = deskless_cites line now mid end deskless votes.asks;
       tree = search rules;
     }
 
@@ -49,7 +52,7 @@ returns-in-Err-answer g c =
           (decide_off voted answer txn mid new decided.asks fault c.in-Err-answer.is);
       levels = search rules;
       ending = ending_voted voting voted txn now mid new votes.kept votes.knows untold decided.ending;
-      cited = λ is. cites_on now mid new (deskless_cites line now mid end deskless votes.asks) (decided.cited (votes.knows is));
+      cited = cites_on now mid new (deskless_cites line now mid end deskless votes.asks) decided.cited;
       tree = search rules;
     }
 
@@ -81,6 +84,6 @@ returns-in-Ok g c =
           (decide_on voted answer txn mid last decided.asks serial new ended c.in-Ok.is ending.asks);
       levels = search rules;
       ending = ending_behind voting txn c.end_committed.result.txn now last new ending.same untold_more (ending_voted voting voted txn now mid last votes.kept votes.knows untold decided.ending);
-      cited = λ before. cites_on now mid new (deskless_cites line now mid end deskless votes.asks) (cites_on mid last new (decided.cited (votes.knows before)) cited);
+      cited = cites_on now mid new (deskless_cites line now mid end deskless votes.asks) (cites_on mid last new decided.cited cited);
       tree = search rules;
     }

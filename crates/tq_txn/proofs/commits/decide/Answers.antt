@@ -9,13 +9,18 @@ use Rattle.tq_txn.proofs.KnownLaws.{cites_ask}
 use Rattle.tq_txn.proofs.LineLaws.{told_desk}
 use Rattle.tq_txn.proofs.commits.decide.Goals as goal
 
-pub desk-requires : goal.desk-requires
-desk-requires g c =
+pub desk-requires-clause-evidence : goal.desk-requires-clause-evidence
+desk-requires-clause-evidence g c =
     let ask = c.in-Ok-evidence.ask in
     let ready = c.in-Ok.ready in
-    let levels = ap (λ (v : VotingView). v.txn.levels) c.in-Ok.ensures.succeeds.1 ∙ c.requires in
+    let levels = ap (λ (v : VotingView). v.txn.levels) c.in-Ok.ensures.succeeds.1 ∙ c.requires.tree in
     subst (λ (l : ℕ). HasGoodEvidence l ask) levels
     (subst (λ (a : DeskAsk). HasGoodEvidence ready.txn.levels a) (sym c.in-Ok-evidence.ensures.value) c.in-Ok-evidence.ensures.good)
+
+pub desk-requires-clause-founded : goal.desk-requires-clause-founded
+desk-requires-clause-founded g c =
+    let told = answers_in (g.A.Asker.told c.args.asker.now) in
+    c.in-Ok-evidence.ensures.cited told (subst (VotesOnly told) (sym c.in-Ok.ensures.succeeds.1) c.requires.knows)
 
 pub decision_of-requires-clause-asked : goal.decision_of-requires-clause-asked
 decision_of-requires-clause-asked g c = c.in-Ok-desk.ensures.same ∙ c.in-Ok-evidence.ensures.value
@@ -41,7 +46,7 @@ pub returns-in-Err-desk-clause-cited : goal.returns-in-Err-desk-clause-cited
 returns-in-Err-desk-clause-cited g c =
     let now = g.A.Asker.told c.args.asker.now in
     let new = g.A.Asker.told c.desk.new.self in
-    λ is. cites_ask now new c.in-Ok-evidence.ask (Err c.in-Err-desk.fault) c.in-Err-desk.ensures.exchanges (c.in-Ok-evidence.ensures.cited (answers_in now) (subst (VotesOnly (answers_in now)) (sym c.in-Ok.ensures.succeeds.1) is))
+    cites_ask now new c.in-Ok-evidence.ask (Err c.in-Err-desk.fault) c.in-Err-desk.ensures.exchanges (c.in-Ok-evidence.ensures.cited (answers_in now) (subst (VotesOnly (answers_in now)) (sym c.in-Ok.ensures.succeeds.1) c.requires.knows))
 
 pub returns-in-Ok-desk : goal.returns-in-Ok-desk
 returns-in-Ok-desk g c =
@@ -63,6 +68,6 @@ returns-in-Ok-desk g c =
           (ready_on ready ask c.in-Ok-evidence.ensures.value told answer after now new (told_desk ask told now new desk.exchanges desk.same) is.answer is.txn);
       levels = levels_still (states.Voting old) after ending.still;
       ending = ending;
-      cited = λ known. cites_ask now new ask (Ok told) desk.exchanges (c.in-Ok-evidence.ensures.cited (answers_in now) (subst (VotesOnly (answers_in now)) (sym same) known));
+      cited = cites_ask now new ask (Ok told) desk.exchanges (c.in-Ok-evidence.ensures.cited (answers_in now) (subst (VotesOnly (answers_in now)) (sym same) c.requires.knows));
       tree = search rules;
     }

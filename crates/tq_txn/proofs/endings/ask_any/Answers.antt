@@ -1,11 +1,10 @@
-use Rattle.std.proofs.Common.{rules}
+use Rattle.tq_txn.proofs.LineLaws.{any_on}
 use Rattle.tq_txn.proofs.endings.ask_any.Goals as goal
 
-pub returns-in-Err-Memory-clause-err : goal.returns-in-Err-Memory-clause-err
-returns-in-Err-Memory-clause-err g c = search rules
+pub returns-clause-asks : goal.returns-clause-asks
+returns-clause-asks g c =
+    (any_on c.args.server.number c.args.ask c.node-told.result c.any_answer.result (g.A.Asker.told c.args.asker.now) (g.A.Asker.told c.node-told.new.self) c.node-told.ensures.exchanges c.any_answer.ensures).0
 
-pub returns-in-Err-Memory-clause-asks : goal.returns-in-Err-Memory-clause-asks
-returns-in-Err-Memory-clause-asks g c = search rules
-
-pub returns-in-Err-JournalFull-clause-asks : goal.returns-in-Err-JournalFull-clause-asks
-returns-in-Err-JournalFull-clause-asks g c = search rules
+pub returns-clause-err : goal.returns-clause-err
+returns-clause-err g c =
+    (any_on c.args.server.number c.args.ask c.node-told.result c.any_answer.result (g.A.Asker.told c.args.asker.now) (g.A.Asker.told c.node-told.new.self) c.node-told.ensures.exchanges c.any_answer.ensures).1

@@ -6,8 +6,9 @@ use Rattle.std.specs.Prelude.{Result}
 use Rattle.tq_coterie.specs.Coterie.{numbers_of}
 use Rattle.tq_shape.specs.Tree.{Server}
 use Rattle.tq_txn.specs.Dialogue.{Follows, LineEnd, ended_by}
-use Rattle.tq_txn.specs.Lines.{ending_line}
+use Rattle.tq_txn.specs.Lines.{end_line, ending_line}
 use Rattle.tq_txn.specs.declared.fault.LineFault.{LineFault}
+use Rattle.tq_txn.proofs.KnownLaws.{end_grown, grown_along}
 use Rattle.tq_txn.proofs.LineLaws.{ending_off, ending_on, follows_end, left_from}
 use Rattle.tq_txn.proofs.endings.end_by.Goals as goal
 
@@ -20,10 +21,13 @@ loop-server-preserved g c =
     let Q : List Server → Type 0 = λ ids. list_all (λ id. id.levels == g.A.Asker.levels c.loop-server.asker) ids ≡ true in
     let R : ℕ → Type 0 = λ levels. list_all (λ id. id.levels == levels) rest ≡ true in
     let parts = and_parts (c.server-item.result.levels == g.A.Asker.levels c.loop-server.asker) (list_all (λ (id : Server). id.levels == g.A.Asker.levels c.loop-server.asker) rest) (subst Q is held.of_tree) in
+    let told = g.A.Asker.told c.loop-server.asker in
+    let new = g.A.Asker.told c.end_at.new.asker in
     record {
       tree = c.end_at.ensures.tree ∙ held.tree;
+      told = end_grown told new (grown_along (end_line c.args.ended.now c.server-item.result.number) told new (Some (record { answer = Ok tt; after = tt })) c.in_ok-end_at.ensures.asks) c.args.ended.now held.told;
       of_tree = subst R (sym c.end_at.ensures.tree) parts.1;
-      asks = λ after end more. held.asks after end (ending_on c.args.ended.now all rest c.server-item.result is (g.A.Asker.told c.loop-server.asker) (g.A.Asker.told c.end_at.new.asker) after end c.in_ok-end_at.ensures.asks more);
+      asks = λ after end more. held.asks after end (ending_on c.args.ended.now all rest c.server-item.result is told new after end c.in_ok-end_at.ensures.asks more);
     }
 
 pub returns-clause-asks : goal.returns-clause-asks

@@ -3,6 +3,7 @@ use Rattle.std.specs.List.{list_all}
 use Rattle.tq_coterie.specs.Coterie.{numbers_of}
 use Rattle.tq_txn.specs.Dialogue.{LineEnd, Follows}
 use Rattle.tq_txn.specs.Lines.{ending_line}
+use Rattle.tq_txn.specs.Told.{IsEndTold}
 use Rattle.tq_txn.specs.declared.asker.Exchange.{Exchange}
 use Rattle.tq_txn.proofs.endings.end_by.Given as goal
 
@@ -11,6 +12,7 @@ abbrev pub invariant-loop-server : goal.invariant-loop-server
 invariant-loop-server g l = record {
   tree : g.A.Asker.levels l.asker ≡ g.A.Asker.levels l.initial.asker;
   of_tree : list_all (λ id. id.levels == g.A.Asker.levels l.asker) (drop l.server-index l.servers) ≡ true;
+  told : IsEndTold (g.A.Asker.told l.asker) l.ended;
   asks : (after : List Exchange) (end : Option (LineEnd (Unit {0}) (Unit {0})))
       → Follows (ending_line l.ended (numbers_of (drop l.server-index l.servers))) (g.A.Asker.told l.asker) after end
       → Follows (ending_line l.ended (numbers_of l.servers)) (g.A.Asker.told l.initial.asker) after end;

@@ -1,21 +1,17 @@
-use Rattle.std.proofs.Common.{◌≡◌, ℕ, List, Option, None, Some, sym, subst, ◌∙◌}
+use Rattle.std.proofs.Common.{ℕ, List, None, Some, sym, subst, ◌∙◌}
 use Rattle.std.proofs.lemmas.Result.{err_from_is_err_and}
 use Rattle.std.specs.Option.{IfSome}
-use Rattle.tq_txn_states.specs.Open.{OpenView}
 use Rattle.tq_txn.specs.Dialogue.{Ends, Follows}
 use Rattle.tq_txn.proofs.LineLaws.{follows_end, follows_then}
 use Rattle.tq_syntax.specs.declared.script.Line.{Line}
 use Rattle.tq_txn.specs.Script.{closing, script_asked}
+use Rattle.tq_txn.specs.Told.{IsOpenIn}
 use Rattle.tq_txn.proofs.Following.{follows_cut, next_line, last_line, no_line}
 use Rattle.tq_txn.proofs.running.run_script.Goals as goal
 
-of_tree : (txn : Option OpenView) (a b : ℕ) → a ≡ b → IfSome txn (λ o. o.levels ≡ a) → IfSome txn (λ o. o.levels ≡ b)
-of_tree None a b same is = tt
-of_tree (Some o) a b same is = is ∙ same
-
 pub close-requires : goal.close-requires
 close-requires g c =
-    of_tree c.loop-line.open_txn c.args.levels (g.A.Asker.levels c.loop-line.asker) (sym (c.loop-line.invariant.tree ∙ c.requires)) c.loop-line.invariant.txn
+    subst (λ (n : ℕ). IfSome c.loop-line.open_txn (IsOpenIn n (g.A.Asker.told c.loop-line.asker))) (sym (c.loop-line.invariant.tree ∙ c.requires)) c.loop-line.invariant.txn
 
 pub loop-line-preserved : goal.loop-line-preserved
 loop-line-preserved g c = record {
@@ -23,7 +19,7 @@ loop-line-preserved g c = record {
       (next_line c.args.levels c.args.limits c.lines-lines.result.now c.loop-line.line-index c.line-item.result c.loop-line.open_txn c.in_ok-open_txn.open_txn (g.A.Asker.told c.loop-line.asker) (g.A.Asker.told c.run_line.new.asker) new end
       c.loop-line-test.true c.line-item.is c.in_ok-open_txn.ensures.asks rest);
   tree = c.in_ok-open_txn.ensures.tree ∙ c.loop-line.invariant.tree;
-  txn = c.in_ok-open_txn.ensures.levels;
+  txn = c.in_ok-open_txn.ensures.txn;
 }
 
 pub returns-in_err-open_txn-clause-asks : goal.returns-in_err-open_txn-clause-asks

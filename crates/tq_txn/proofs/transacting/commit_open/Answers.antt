@@ -1,11 +1,30 @@
-use Rattle.std.proofs.Common.{Some, None}
+use Rattle.std.proofs.Common.{◌≡◌, ℕ, List, Option, Some, None, subst}
 use Rattle.std.proofs.lemmas.Result.{err_from_is_err_and}
+use Rattle.std.specs.Option.{IfSome}
 use Rattle.std.specs.Result.{result_ok}
 use Rattle.tq_txn.specs.Commits.{commit_line}
+use Rattle.tq_txn_states.specs.Open.{OpenView}
+use Rattle.tq_txn.specs.Told.{IsOpenIn, Knows, answers_in}
+use Rattle.tq_txn.specs.declared.asker.Exchange.{Exchange}
+use Rattle.tq_txn.specs.declared.txn.Txn.TheVariants as states
 use Rattle.tq_txn.proofs.LineLaws.{follows_end}
 use Rattle.tq_txn.specs.Script.{after_commit}
 use Rattle.tq_txn.proofs.Following.{follows_closed, follows_went, follows_went_out}
 use Rattle.tq_txn.proofs.transacting.commit_open.Goals as goal
+
+-- what is open knows what it keeps
+kept_open : (levels : ℕ) (told : List Exchange) (open_txn : Option OpenView) (txn : OpenView) → open_txn ≡ Some txn → IfSome open_txn (IsOpenIn levels told) → Knows told (states.Open txn)
+kept_open levels told open_txn txn is known = (subst (λ (o : Option OpenView). IfSome o (IsOpenIn levels told)) is known).1
+
+pub commit-answer-requires-clause-knows : goal.commit-answer-requires-clause-knows
+commit-answer-requires-clause-knows g c =
+    let told = g.A.Asker.told c.args.asker.now in
+    c.in-Ok.ensures.cited (answers_in told) (kept_open (g.A.Asker.levels c.args.asker.now) told c.args.open_txn c.in-Some.txn c.in-Some.is c.requires)
+
+pub give_up-requires-2-clause-knows : goal.give_up-requires-2-clause-knows
+give_up-requires-2-clause-knows g c =
+    let told = g.A.Asker.told c.args.asker.now in
+    c.commit-answer.ensures.ending.knows (c.in-Ok.ensures.cited (answers_in told) (kept_open (g.A.Asker.levels c.args.asker.now) told c.args.open_txn c.in-Some.txn c.in-Some.is c.requires))
 
 pub returns-in_err-answered-clause-asks : goal.returns-in_err-answered-clause-asks
 returns-in_err-answered-clause-asks g c =

@@ -8,7 +8,7 @@ pub invariant_of-self-2 : goal.invariant_of-self-2
 invariant_of-self-2 c =
     let was = ap (λ v. v.records) c.self.view_is in
     let items = rw c.unwrap.ensures at c.append.ensures.items in
-    IsIndex-dead c.self.inside.records.items c.append.new.self.items c.args.records c.self.inside.open_votes.entries
+    IsIndex-dead c.self.inside.records.items c.append.new.self.items c.args.records c.self.inside.open_votes
     (subst (λ list. IsUnfinished list c.args.records) (sym was) c.requires)
     (items ∙ (λ i. c.in_ok-reserve.ensures.items i ++ c.into_vec-added.ensures i))
     c.self.invariant

@@ -9,8 +9,8 @@ use Rattle.tq_intents.proofs.intents.Intents.votes.Goals as goal
 
 pub returns : goal.returns
 returns c =
-    let entries = c.self.inside.open_votes.entries in
-    c.iter.ensures.rest
-    ∙ sym (entries-from_ordered nat_cmp_total nat_cmp-IsAntisymmetric entries c.iter.ensures.ordered)
-    ∙ ap fin.entries (same_map nat_cmp_total nat_cmp-IsAntisymmetric (fin.from_entries {R = nat_cmp} entries) (kept_votes c.self.inside.records.items) (λ q. get_entry nat_cmp_total entries q ∙ c.self.invariant.each q))
+    let votes = c.self.inside.open_votes in
+    c.iter.ensures.votes
+    ∙ sym (entries-from_ordered nat_cmp_total nat_cmp-IsAntisymmetric votes c.iter.ensures.ordered)
+    ∙ ap fin.entries (same_map nat_cmp_total nat_cmp-IsAntisymmetric (fin.from_entries {R = nat_cmp} votes) (kept_votes c.self.inside.records.items) (λ q. get_entry nat_cmp_total votes q ∙ c.self.invariant.each q))
     ∙ ap (λ v. fin.entries (kept_votes v.records)) c.self.view_is

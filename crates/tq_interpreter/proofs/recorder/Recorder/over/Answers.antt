@@ -1,5 +1,5 @@
-use Rattle.std.proofs.Common.{[], refl}
+use Rattle.tq_interpreter.proofs.Recording.{begun}
 use Rattle.tq_interpreter.proofs.recorder.Recorder.over.Goals as goal
 
 pub invariant_of-result : goal.invariant_of-result
-invariant_of-result c = record { start = c.args.service; since = []; told_is = c.told_before-told.ensures; replays = refl }
+invariant_of-result c = begun c.args.service _ c.told_before-told.ensures

@@ -1,9 +1,16 @@
 use Rattle.std.proofs.Common.{◌∙◌, ◌++◌, List, ap, sym, subst}
+use Rattle.tq_txn.specs.Told.{answers_in}
+use Rattle.tq_txn_states.specs.Voting.{CitesOnly}
 use Rattle.tq_txn.specs.declared.asker.Exchange.{Exchange}
 use Rattle.tq_txn.specs.declared.asker.Exchange.TheVariants as exchanges
 use Rattle.tq_interpreter.specs.Recorded.{RecorderView, IsReplayed, told_exchanges}
-use Rattle.tq_interpreter.proofs.Recording.{asked_desk}
+use Rattle.tq_interpreter.proofs.Recording.{asked_desk, founded_by}
 use Rattle.tq_interpreter.proofs.recorder.RecorderAsker.desk.Goals as goal
+
+pub ask_desk-answer-requires-clause-founded : goal.ask_desk-answer-requires-clause-founded
+ask_desk-answer-requires-clause-founded c =
+    founded_by c.self.inside.service c.self.inside.told.items c.args.ask c.self.invariant.stands
+    (subst (λ (v : RecorderView). CitesOnly (answers_in v.told) c.args.ask) (sym c.self.view_is) c.requires.founded)
 
 pub invariant_of-self : goal.invariant_of-self
 invariant_of-self c =

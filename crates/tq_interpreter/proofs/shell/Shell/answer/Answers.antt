@@ -1,25 +1,30 @@
 use Rattle.std.proofs.Common.{◌≡◌, ◌∙◌, ◌<◌, ◌+◌, ◌++◌, length, ap, sym, subst}
 use Rattle.std.proofs.lemmas.List.Elements.{All-set}
-use Rattle.tq_txn.specs.Told.{levels_of}
 use Rattle.tq_syntax.specs.declared.line.Line.TheVariants as lines
 use Rattle.tq_interpreter.specs.declared.txn_slot.TxnSlot.{TxnSlot}
 use Rattle.tq_interpreter.specs.Answer.{World, answer}
-use Rattle.tq_interpreter.proofs.ShellLines.{txn_answered}
+use Rattle.tq_interpreter.specs.Known.{IsKept}
+use Rattle.tq_interpreter.proofs.ShellLines.{are_kept_on, txn_answered}
 use Rattle.tq_interpreter.proofs.shell.Shell.answer.Goals as goal
+
+pub answer_txn-requires-clause-txn : goal.answer_txn-requires-clause-txn
+answer_txn-requires-clause-txn c =
+    let less : c.in-Some.place < length c.self.inside.txns.items = subst (λ (v : World). c.in-Some.place < length v.known.txns) (sym c.self.view_is) c.in-Some.ensures.some.1 in
+    subst (λ (k : TxnSlot). IsKept c.self.inside.recorder k.txn) (sym c.index_mut-kept.ensures.value) (c.self.invariant.1 c.in-Some.place c.index_mut-kept.result.now less)
 
 pub invariant_of-self : goal.invariant_of-self
 invariant_of-self c =
-    let On : TxnSlot → Type 0 = λ k. levels_of k.txn ≡ c.self.inside.levels in
-    let less : c.in-Some.place < length c.self.inside.txns.items = subst (λ (v : World). c.in-Some.place < length v.known.txns) (sym c.self.view_is) c.in-Some.ensures.some.1 in
-    let left : levels_of c.answer_txn.new.kept.txn ≡ c.self.inside.levels = c.in_err-answer_txn-in-Some.ensures.levels ∙ ap (λ (k : TxnSlot). levels_of k.txn) c.index_mut-kept.ensures.value ∙ c.self.invariant.1 c.in-Some.place c.index_mut-kept.result.now less in
-    (c.in_err-answer_txn-in-Some.ensures.tree ∙ c.self.invariant.0, All-set On c.self.inside.txns.items c.in-Some.place c.answer_txn.new.kept left c.self.invariant.1)
+    let now = c.answer_txn.new.recorder in
+    let later = c.in_err-answer_txn-in-Some.ensures.later in
+    let each = are_kept_on c.self.inside.recorder now c.self.inside.txns.items later c.self.invariant.1 in
+    (later.tree ∙ c.self.invariant.0, All-set (λ (k : TxnSlot). IsKept now k.txn) c.self.inside.txns.items c.in-Some.place c.answer_txn.new.kept c.in_err-answer_txn-in-Some.ensures.txn each)
 
 pub invariant_of-self-in-Some : goal.invariant_of-self-in-Some
 invariant_of-self-in-Some c =
-    let On : TxnSlot → Type 0 = λ k. levels_of k.txn ≡ c.self.inside.levels in
-    let less : c.in-Some.place < length c.self.inside.txns.items = subst (λ (v : World). c.in-Some.place < length v.known.txns) (sym c.self.view_is) c.in-Some.ensures.some.1 in
-    let left : levels_of c.answer_txn.new.kept.txn ≡ c.self.inside.levels = c.in_ok-answer_txn-in-Some.ensures.levels ∙ ap (λ (k : TxnSlot). levels_of k.txn) c.index_mut-kept.ensures.value ∙ c.self.invariant.1 c.in-Some.place c.index_mut-kept.result.now less in
-    (c.in_ok-answer_txn-in-Some.ensures.tree ∙ c.self.invariant.0, All-set On c.self.inside.txns.items c.in-Some.place c.answer_txn.new.kept left c.self.invariant.1)
+    let now = c.answer_txn.new.recorder in
+    let later = c.in_ok-answer_txn-in-Some.ensures.later in
+    let each = are_kept_on c.self.inside.recorder now c.self.inside.txns.items later c.self.invariant.1 in
+    (later.tree ∙ c.self.invariant.0, All-set (λ (k : TxnSlot). IsKept now k.txn) c.self.inside.txns.items c.in-Some.place c.answer_txn.new.kept c.in_ok-answer_txn-in-Some.ensures.txn each)
 
 pub returns-in_ok-answer_txn-in-Some : goal.returns-in_ok-answer_txn-in-Some
 returns-in_ok-answer_txn-in-Some c =

@@ -6,8 +6,8 @@ use Rattle.tq_txn.specs.Dialogue.{line_result, desk_line}
 use Rattle.tq_txn.proofs.LineLaws.{asked_desk}
 use Rattle.tq_interpreter.specs.Answer.{World, IsWhole, answer_of_run, begin_end, begin_asked}
 use Rattle.tq_interpreter.specs.Recorded.{run_line}
-use Rattle.tq_interpreter.specs.Known.{AreOfTree, Known}
-use Rattle.tq_interpreter.proofs.ShellLines.{answered_by, begun_of_tree, begun_whole}
+use Rattle.tq_interpreter.specs.Known.{AreKept, Known}
+use Rattle.tq_interpreter.proofs.ShellLines.{answered_by, are_kept_on, begun_kept, begun_whole, later_by}
 use Rattle.tq_interpreter.proofs.shell.Shell.begin.Goals as goal
 
 -- what holds holds after an error
@@ -17,17 +17,19 @@ on_err (Err fault) P is = is
 
 pub invariant_of-self-in_err-begin_end : goal.invariant_of-self-in_err-begin_end
 invariant_of-self-in_err-begin_end c =
-    let each = subst (AreOfTree c.self.inside.levels) (sym c.reserve.ensures.items) c.self.invariant.1 in (
-      c.desk-answer.ensures.tree ∙ c.self.invariant.0,
-      begun_of_tree c.self.inside.levels c.self.inside.limits c.self.inside.others c.reserve.new.self c.begin_end.new.txns (line_result c.desk-answer.result) (c.begin_end.ensures.known c.self.inside.others) each,
-    )
+    let now = c.desk-answer.new.self in
+    let tree = c.desk-answer.ensures.tree ∙ c.self.invariant.0 in
+    let later = later_by c.self.inside.recorder now _ c.desk-answer.ensures.tree c.desk-answer.ensures.exchanges in
+    let each = are_kept_on c.self.inside.recorder now c.reserve.new.self.items later (subst (AreKept c.self.inside.recorder) (sym c.reserve.ensures.items) c.self.invariant.1) in
+    (tree, begun_kept c.self.inside.levels c.self.inside.limits c.self.inside.others now c.reserve.new.self c.begin_end.new.txns (line_result c.desk-answer.result) (sym tree) (c.begin_end.ensures.known c.self.inside.others) each)
 
 pub invariant_of-self-2 : goal.invariant_of-self-2
 invariant_of-self-2 c =
-    let each = subst (AreOfTree c.self.inside.levels) (sym c.reserve.ensures.items) c.self.invariant.1 in (
-      c.desk-answer.ensures.tree ∙ c.self.invariant.0,
-      begun_of_tree c.self.inside.levels c.self.inside.limits c.self.inside.others c.reserve.new.self c.begin_end.new.txns (line_result c.desk-answer.result) (c.begin_end.ensures.known c.self.inside.others) each,
-    )
+    let now = c.desk-answer.new.self in
+    let tree = c.desk-answer.ensures.tree ∙ c.self.invariant.0 in
+    let later = later_by c.self.inside.recorder now _ c.desk-answer.ensures.tree c.desk-answer.ensures.exchanges in
+    let each = are_kept_on c.self.inside.recorder now c.reserve.new.self.items later (subst (AreKept c.self.inside.recorder) (sym c.reserve.ensures.items) c.self.invariant.1) in
+    (tree, begun_kept c.self.inside.levels c.self.inside.limits c.self.inside.others now c.reserve.new.self c.begin_end.new.txns (line_result c.desk-answer.result) (sym tree) (c.begin_end.ensures.known c.self.inside.others) each)
 
 pub returns : goal.returns
 returns c =

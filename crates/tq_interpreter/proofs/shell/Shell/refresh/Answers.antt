@@ -2,8 +2,16 @@ use Rattle.std.proofs.Common.{◌∙◌, ◌++◌, ap}
 use Rattle.tq_interpreter.specs.Answer.{World, answer}
 use Rattle.tq_interpreter.specs.Known.{Known}
 use Rattle.tq_syntax.specs.declared.line.Line.TheVariants.{Refresh}
-use Rattle.tq_interpreter.proofs.ShellLines.{refresh_answered}
+use Rattle.tq_interpreter.proofs.ShellLines.{refresh_answered, shell_on}
 use Rattle.tq_interpreter.proofs.shell.Shell.refresh.Goals as goal
+
+pub invariant_of-self : goal.invariant_of-self
+invariant_of-self c =
+    shell_on c.self.inside.recorder c.refresh_all.new.recorder c.self.inside.levels c.self.inside.txns.items c.refresh_all.ensures.later c.self.invariant
+
+pub invariant_of-self-2 : goal.invariant_of-self-2
+invariant_of-self-2 c =
+    shell_on c.self.inside.recorder c.refresh_all.new.recorder c.self.inside.levels c.self.inside.txns.items c.refresh_all.ensures.later c.self.invariant
 
 pub returns : goal.returns
 returns c =

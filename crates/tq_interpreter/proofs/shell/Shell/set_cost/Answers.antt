@@ -6,8 +6,18 @@ use Rattle.tq_txn.proofs.LineLaws.{asked_view}
 use Rattle.tq_interpreter.specs.Answer.{World, answer_of_run, view_end, ok_text, cost_asked}
 use Rattle.tq_interpreter.specs.Recorded.{run_line}
 use Rattle.tq_interpreter.specs.Known.{Known}
-use Rattle.tq_interpreter.proofs.ShellLines.{answered_by}
+use Rattle.tq_interpreter.proofs.ShellLines.{answered_by, later_by, shell_on}
 use Rattle.tq_interpreter.proofs.shell.Shell.set_cost.Goals as goal
+
+pub invariant_of-self : goal.invariant_of-self
+invariant_of-self c =
+    let later = later_by c.self.inside.recorder c.view-answer.new.self _ c.view-answer.ensures.tree c.view-answer.ensures.exchanges in
+    shell_on c.self.inside.recorder c.view-answer.new.self c.self.inside.levels c.self.inside.txns.items later c.self.invariant
+
+pub invariant_of-self-2 : goal.invariant_of-self-2
+invariant_of-self-2 c =
+    let later = later_by c.self.inside.recorder c.view-answer.new.self _ c.view-answer.ensures.tree c.view-answer.ensures.exchanges in
+    shell_on c.self.inside.recorder c.view-answer.new.self c.self.inside.levels c.self.inside.txns.items later c.self.invariant
 
 pub returns : goal.returns
 returns c =

@@ -6,8 +6,18 @@ use Rattle.tq_interpreter.specs.TxnAsked.{result_text}
 use Rattle.tq_interpreter.specs.Recorded.{run_line}
 use Rattle.tq_interpreter.specs.Known.{Known}
 use Rattle.tq_text.specs.Print.{printed_line}
-use Rattle.tq_interpreter.proofs.ShellLines.{answered_by}
+use Rattle.tq_interpreter.proofs.ShellLines.{answered_by, later_asked, shell_on}
 use Rattle.tq_interpreter.proofs.shell.Shell.set_mark.Goals as goal
+
+pub invariant_of-self : goal.invariant_of-self
+invariant_of-self c =
+    let later = later_asked (mark_line c.args.id.number c.args.up) c.self.inside.recorder c.mark_server-answer.new.asker _ c.mark_server-answer.ensures.tree c.mark_server-answer.ensures.asks in
+    shell_on c.self.inside.recorder c.mark_server-answer.new.asker c.self.inside.levels c.self.inside.txns.items later c.self.invariant
+
+pub invariant_of-self-2 : goal.invariant_of-self-2
+invariant_of-self-2 c =
+    let later = later_asked (mark_line c.args.id.number c.args.up) c.self.inside.recorder c.mark_server-answer.new.asker _ c.mark_server-answer.ensures.tree c.mark_server-answer.ensures.asks in
+    shell_on c.self.inside.recorder c.mark_server-answer.new.asker c.self.inside.levels c.self.inside.txns.items later c.self.invariant
 
 pub returns : goal.returns
 returns c =

@@ -1,6 +1,6 @@
 use Rattle.std.proofs.Common.{sym, ap, ◌∙◌, arith, slice_get}
 use Rattle.tq_store.proofs.Placed.{opened}
-use Rattle.indexmap.proofs.MapLemmas.{Found-position, Missing-position}
+use Rattle.indexmap.proofs.MapLemmas.{Found-position}
 use Rattle.std_collections.proofs.Zip.{slice_get_at}
 use Rattle.tq_store.proofs.ordered.Ordered.get.Goals as goal
 
@@ -18,6 +18,3 @@ returns-in-Some g c =
     let f = Found-position t c.args.self.now.entries c.in-Some.place (sym c.in-Some.ensures.index) in
     let i = c.in-Some.place in
     record { value = sym (f.value ∙ ap (λ l. slice_get l i) (sym o.values) ∙ slice_get_at c.self.inside.values.items i c.index.result.now (omega (arith, f.within, o.values_length)) c.index.ensures) }
-
-pub returns-in-None : goal.returns-in-None
-returns-in-None g c = record { value = sym (Missing-position (g.K.PartialEq.eq c.args.key.now) c.args.self.now.entries (sym c.in-None.ensures.index)).value }

@@ -1,6 +1,6 @@
 use Rattle.std.proofs.Common.{rules, sym, ap, ◌∙◌, arith, slice_get}
 use Rattle.tq_store.proofs.Placed.{opened}
-use Rattle.indexmap.proofs.MapLemmas.{Found-position, Missing-position}
+use Rattle.indexmap.proofs.MapLemmas.{Found-position}
 use Rattle.std_collections.proofs.Zip.{slice_get_at, slice_get-zip}
 use Rattle.tq_store.proofs.ordered.Ordered.get_full.Goals as goal
 
@@ -30,6 +30,3 @@ returns-in-Some g c =
       value = sym (f.value ∙ ap (λ l. slice_get l i) (sym o.values) ∙ slice_get_at c.self.inside.values.items i c.index-in-Some.result.now (omega (arith, f.within, o.values_length)) c.index-in-Some.ensures);
       entry = ap (λ es. slice_get es i) (sym o.entries) ∙ entry;
     }
-
-pub returns-in-None-clause-value : goal.returns-in-None-clause-value
-returns-in-None-clause-value g c = sym (Missing-position (g.K.PartialEq.eq c.args.key.now) c.args.self.now.entries (sym c.in-None.ensures.index)).value

@@ -1,5 +1,0 @@
-use Rattle.std.proofs.Common.{rules}
-use Rattle.tq_shape.proofs.server.ServerId.left.Goals as goal
-
-pub returns : goal.returns
-returns c = search rules
