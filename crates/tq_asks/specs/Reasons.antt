@@ -1,8 +1,7 @@
 -- What contracts see of a reason that a reply keeps.
-use Rattle.tq_asks.specs.declared.ask.NodeRefusal.{NodeRefusal}
-use Rattle.tq_asks.specs.declared.ask.NodeRefusal.TheVariants as refusals
-use Rattle.tq_asks.specs.declared.reason.Kept.{Kept}
+use Rattle.tq_asks.specs.declared.{ask.NodeRefusal.NodeRefusal, reason.Kept.Kept}
 use Rattle.tq_asks.specs.declared.reason.Kept.TheVariants.{Down, AlreadyUp, AlreadyDown, Held, Prepared, NotLocked, BadWrites, NotNewer, NothingHere}
+use Rattle.tq_asks.specs.declared.ask.NodeRefusal.TheVariants as refusals
 
 -- the reason that is kept, as the reply tells it
 abbrev pub reason_of : Kept → NodeRefusal

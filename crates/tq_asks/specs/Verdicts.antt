@@ -1,10 +1,6 @@
 -- Which votes a verdict cites. Whether two verdicts are the same, as a test.
-use Rattle.std.specs.Prelude.{ℕ, Bool, false, ◌&&◌, ◌==◌, List, true}
-use Rattle.std.specs.List.{list_any}
-use Rattle.tq_asks.specs.declared.ask.CitedVote.{CitedVote}
-use Rattle.tq_asks.specs.declared.ask.Verdict.{Verdict}
-use Rattle.tq_asks.specs.declared.ask.Verdict.TheVariants.{Abort, Commit}
-use Rattle.std.specs.Cmp.Lexicographic.{pointwise}
+use Rattle.std.specs.{Prelude.{ℕ, Bool, false, ◌&&◌, ◌==◌, List, true}, List.list_any, Cmp.Lexicographic.pointwise}
+use Rattle.tq_asks.specs.declared.ask.{CitedVote.CitedVote, Verdict.Verdict, Verdict.TheVariants.{Abort, Commit}}
 
 -- the votes cited have this one
 abbrev pub are_citing : List CitedVote → ℕ → ℕ → Bool

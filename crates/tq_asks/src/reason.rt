@@ -29,9 +29,8 @@ enum Kept {
 }
 
 impl Model for Reason {
-    ghost use Rattle.tq_asks.specs.declared.ask.NodeRefusal.{NodeRefusal as refusal_value};
+    ghost use Rattle.tq_asks.specs.{declared.ask.NodeRefusal.NodeRefusal as refusal_value, Reasons.reason_of};
     ghost use Rattle.tq_asks.specs.contracts.ask.NodeRefusal as refusal_type;
-    ghost use Rattle.tq_asks.specs.Reasons.{reason_of};
 
     ghost Value = { refusal_value };
 

@@ -1,19 +1,15 @@
 -- What is put behind a text, piece after piece. A list of values of what a function gives. Text that goes to a sink as
 -- it comes, step by step.
 use Rattle.std.proofs.Common.{◌≡◌, ℕ, List, [], ◌∷◌, ◌++◌, Result, Ok, Err, ap, sym, subst, append_assoc, map, refl, Bool, true, false, true≢false, Option, length, take, drop, ◌∙◌, arith}
+use Rattle.std.proofs.{lemmas.List.{append-nil, take-append-drop}, Math.Seq.take-append_seam}
 use Rattle.json.specs.Print.{escape, quoted}
 use Rattle.tq_board.specs.Lines.{in_quotes, Added, Adds, Spill, IsSpilled, Settles, Spills, Ends, IsWrittenOut}
-use Rattle.std.specs.List.{AllByRecursion}
-use Rattle.serde_json.specs.Data.{Data, item}
 use Rattle.tq_board.specs.Values.{value_items}
-use Rattle.std.proofs.lemmas.List.{append-nil, take-append-drop}
-use Rattle.std.proofs.Math.Seq.{take-append_seam}
-use Rattle.std.specs.Prelude.{is_err}
-use Rattle.std.specs.Io.KnownBytes.{Appends}
-use Rattle.tq_devices.specs.Devices.{IsWritten}
-use Rattle.tq_devices.proofs.Written.{Appends-then}
-use Rattle.tq_devices.specs.declared.fault.RunFault.{RunFault}
+use Rattle.std.specs.{List.AllByRecursion, Prelude.is_err, Io.KnownBytes.Appends}
+use Rattle.serde_json.specs.Data.{Data, item}
+use Rattle.tq_devices.specs.{Devices.IsWritten, declared.fault.RunFault.RunFault}
 use Rattle.tq_devices.specs.declared.fault.RunFault.TheVariants.{Memory, Read, Write, TooLong}
+use Rattle.tq_devices.proofs.Written.{Appends-then}
 
 -- what is put first, and then more
 pub added : {O : Type 0} {Puts : O → O → List ℕ → Type 0} {old mid new : O} {some more : List ℕ} → Added Puts old mid some → Added Puts mid new more → Added Puts old new (some ++ more)

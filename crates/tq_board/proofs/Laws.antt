@@ -2,53 +2,42 @@
 -- from its value.
 -- The text of journals is read as the journals. The line of an entry is read as the entry.
 use Rattle.std.proofs.Common.{◌≡◌, nat_lt, ◌≤◌, suc, ℕ, false, cond, List, [], ◌∷◌, length, Option, Some, None, refl, ap, ◌∙◌, sym, nat_le, ◌&&◌, ◌+◌, ◌^◌, Bool, true, ◌++◌, arith}
-use Rattle.std.specs.List.{AllByRecursion}
-use Rattle.std.proofs.lemmas.Bool.{le-leb, le-ltb, eq-eqb}
+use Rattle.std.proofs.lemmas.{Bool.{le-leb, le-ltb, eq-eqb}, List.Elements.recursion_from_All}
+use Rattle.std.specs.{List.AllByRecursion, Prelude.IsUtf8}
 use Rattle.hex.specs.Hex.{encode_lower}
 use Rattle.hex.proofs.HexLemmas.{decode_of-encode_lower}
-use Rattle.serde_json.specs.Data.{Data, Items}
-use Rattle.tq_shape.specs.declared.part.Entry.{Entry}
+use Rattle.serde_json.specs.{Data.{Data, Items}, Written.compact_text}
+use Rattle.tq_shape.specs.{declared.part.Entry.Entry, Limits.LimitsView}
 use Rattle.tq_json.specs.declared.format.Format.TheVariants.{Two}
 use Rattle.tq_json.specs.Member.{name_of, content_of, content_read, short_enough, ◌>>=◌, each, number_of}
 use Rattle.tq_json_read.specs.Frame.{entry, count, journal, node_entry, desk_entry, view_entry, IsAlone}
-use Rattle.tq_board.specs.Values.{whole, value_items, list_value, entry_value, IsFitting}
+use Rattle.tq_board.specs.{Values.{whole, value_items, list_value, entry_value, IsFitting}, Nodes.node_entry_value}
 use Rattle.tq_board.specs.Sound.{IsFile, IsContent, IsAny, IsWrite, IsHeldLock, IsWork, IsNodeAsk, IsNodeRefusal, IsNodeReply, IsNodeEntry, IsGrant, IsOp, IsVote, IsDeskAsk, IsDeskEntry, IsViewReply, IsViewEntry, AreSound, HasLimits}
+use Rattle.tq_board.specs.Form.{desk_entry_value, limits_value, journals_value, view_entry_value}
+use Rattle.tq_board.specs.Lines.{IsTextOf, line_of}
 use Rattle.tq_store.specs.declared.write.Write.{Write}
-use Rattle.tq_locks.specs.declared.mode.Mode.{Mode}
+use Rattle.tq_locks.specs.{declared.mode.Mode.Mode, Locks.mode_text}
 use Rattle.tq_locks.specs.declared.mode.Mode.TheVariants as mode
-use Rattle.tq_locks.specs.Locks.{mode_text}
-use Rattle.tq_asks.specs.declared.ask.CitedVote.{CitedVote}
-use Rattle.tq_asks.specs.declared.ask.HeldLock.{HeldLock}
-use Rattle.tq_asks.specs.declared.ask.NodeAsk.{NodeAsk}
+use Rattle.tq_asks.specs.declared.ask.{CitedVote.CitedVote, HeldLock.HeldLock, NodeAsk.NodeAsk, NodeRefusal.NodeRefusal}
+use Rattle.tq_asks.specs.declared.ask.{NodeReply.NodeReply, Verdict.Verdict, WorkAsk.WorkAsk}
 use Rattle.tq_asks.specs.declared.ask.NodeAsk.TheVariants as ask
-use Rattle.tq_asks.specs.declared.ask.NodeRefusal.{NodeRefusal}
 use Rattle.tq_asks.specs.declared.ask.NodeRefusal.TheVariants as refusal
-use Rattle.tq_asks.specs.declared.ask.NodeReply.{NodeReply}
 use Rattle.tq_asks.specs.declared.ask.NodeReply.TheVariants as reply
-use Rattle.tq_asks.specs.declared.ask.Verdict.{Verdict}
 use Rattle.tq_asks.specs.declared.ask.Verdict.TheVariants as verdict
-use Rattle.tq_asks.specs.declared.ask.WorkAsk.{WorkAsk}
 use Rattle.tq_asks.specs.declared.ask.WorkAsk.TheVariants as work
 use Rattle.tq_node.specs.NodeJournal.{NodeEntry}
-use Rattle.tq_evidence.specs.declared.grant.Grant.{Grant}
-use Rattle.tq_evidence.specs.declared.op.Op.{Op}
-use Rattle.tq_evidence.specs.declared.op.OpKind.{OpKind}
-use Rattle.tq_evidence.specs.declared.op.OpKind.TheVariants as op_kind
-use Rattle.tq_evidence.specs.declared.rule.Rule.{Rule}
-use Rattle.tq_evidence.specs.declared.rule.Rule.TheVariants as rules
-use Rattle.tq_evidence.specs.declared.vote.Vote.{Vote}
+use Rattle.tq_evidence.specs.declared.{grant.Grant.Grant, op.Op.Op, op.OpKind.OpKind, rule.Rule.Rule, vote.Vote.Vote}
 use Rattle.tq_evidence.specs.Evidence.{rule_number, rule_at}
-use Rattle.tq_desk.specs.declared.ask.DeskAsk.{DeskAsk}
-use Rattle.tq_desk.specs.declared.ask.DeskAsk.TheVariants as desk
-use Rattle.tq_desk.specs.declared.ask.DeskRefusal.{DeskRefusal}
-use Rattle.tq_desk.specs.declared.ask.DeskRefusal.TheVariants as desk_refusal
-use Rattle.tq_desk.specs.declared.ask.DeskReply.{DeskReply}
-use Rattle.tq_desk.specs.declared.ask.DeskReply.TheVariants as desk_reply
+use Rattle.tq_evidence.specs.declared.op.OpKind.TheVariants as op_kind
+use Rattle.tq_evidence.specs.declared.rule.Rule.TheVariants as rules
+use Rattle.tq_desk.specs.declared.ask.{DeskAsk.DeskAsk, DeskRefusal.DeskRefusal, DeskReply.DeskReply}
 use Rattle.tq_desk.specs.DeskJournal.{DeskEntry}
+use Rattle.tq_desk.specs.declared.ask.DeskAsk.TheVariants as desk
+use Rattle.tq_desk.specs.declared.ask.DeskRefusal.TheVariants as desk_refusal
+use Rattle.tq_desk.specs.declared.ask.DeskReply.TheVariants as desk_reply
 use Rattle.tq_live.specs.declared.purpose.Purpose.TheVariants as purpose
-use Rattle.tq_live.specs.declared.view.ViewAsk.{ViewAsk}
+use Rattle.tq_live.specs.declared.view.{ViewAsk.ViewAsk, ViewReply.ViewReply}
 use Rattle.tq_live.specs.declared.view.ViewAsk.TheVariants as view
-use Rattle.tq_live.specs.declared.view.ViewReply.{ViewReply}
 use Rattle.tq_live.specs.declared.view.ViewReply.TheVariants as view_reply
 use Rattle.tq_live.specs.declared.view.ViewRefusal.TheVariants as view_refusal
 use Rattle.tq_tables.specs.Journals.{ViewEntry, IsOfTree, JournalsView}
@@ -58,14 +47,7 @@ use Rattle.tq_json_read.specs.Desks as desk_form
 use Rattle.tq_json_read.specs.Views as view_form
 use Rattle.tq_board.specs.Nodes as nodes
 use Rattle.tq_board.specs.Form as forms
-use Rattle.std.specs.Prelude.{IsUtf8}
-use Rattle.std.proofs.lemmas.List.Elements.{recursion_from_All}
-use Rattle.serde_json.specs.Written.{compact_text}
-use Rattle.tq_shape.specs.Limits.{LimitsView}
 use Rattle.tq_json_read.specs.Frame as frame
-use Rattle.tq_board.specs.Nodes.{node_entry_value}
-use Rattle.tq_board.specs.Form.{desk_entry_value, limits_value, journals_value, view_entry_value}
-use Rattle.tq_board.specs.Lines.{IsTextOf, line_of}
 use Rattle.tq_board.proofs.ReadBack.{read-line}
 use Rattle.tq_board.proofs.Shapes.{journals-shaped, node-entry-shaped, desk-entry-shaped, view-entry-shaped, deeper, IsShaped}
 

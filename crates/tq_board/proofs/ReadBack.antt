@@ -3,36 +3,26 @@
 -- The text of a value, with a line feed after it, is read as the value. The text of a value has no line feed, and is a
 -- line with one behind it.
 use Rattle.std.proofs.Common.{◌≡◌, ℕ, Bool, true, false, cond, ◌&&◌, List, [], ◌∷◌, ◌++◌, refl, sym, ap, ap₂, ◌∙◌, append_assoc, zero, suc, ◌-◌, inl, inr, eq-zero-or-pos, ◌/◌, ◌%◌, ◌<◌, ◌≤◌, IsTrue, arith, Option, Some, option_and_then, append-nil, ◌^◌, ◌+◌, nat_lt, map, subst}
-use Rattle.json.specs.Token.{Token, begin_object, key, string, number, boolean, null, bad}
-use Rattle.json.specs.Word.{ends_word, word}
+use Rattle.std.proofs.lemmas.{Bool.Decides.nat_tests, List.get_or_past, Str.Ascii.{IsAscii-cons, IsAscii-nil}}
+use Rattle.std.proofs.lemmas.Fmt.{decimal-digits_of, decimal_digit}
+use Rattle.json.specs.{Token.{Token, begin_object, key, string, number, boolean, null, bad}, Word.{ends_word, word}}
 use Rattle.json.specs.Lex.{Lexeme, token, comma, colon, string_token, lex, between, fresh, punctuate, tokens}
 use Rattle.json.specs.Print.{escape, quoted, token_text, begins, ends, separator, print_from, print, IsPrintable, ArePrintable, escape_byte, escape_letter}
-use Rattle.json.proofs.Printed.Strings.{content-escape, lex-escape, escape_byte_plain}
-use Rattle.json.proofs.Printed.Numbers.{lex-number, in_word-ended}
-use Rattle.json.proofs.Printed.Tokens.{tokens-print}
-use Rattle.std.specs.Prelude.{nat_le, length, slice_index, decimal}
-use Rattle.std.proofs.lemmas.Bool.Decides.{nat_tests}
-use Rattle.std.specs.List.{list_all}
-use Rattle.std.proofs.lemmas.List.{get_or_past}
-use Rattle.std.specs.Str.{IsAscii}
-use Rattle.std.proofs.lemmas.Str.Ascii.{IsAscii-cons, IsAscii-nil}
+use Rattle.json.proofs.Printed.{Strings.{content-escape, lex-escape, escape_byte_plain}, Tokens.tokens-print}
+use Rattle.json.proofs.Printed.{Numbers.{lex-number, in_word-ended}, Decimals.IsNumber-decimal}
+use Rattle.json.proofs.Printed.Trees.{value-json_tokens, ArePrintable-json_tokens}
+use Rattle.std.specs.{Prelude.{nat_le, length, slice_index, decimal}, List.list_all, Str.IsAscii, Char.digit_char}
 use Rattle.hex.specs.Hex.{encode_with, encode_lower, lower_digits, IsBytes}
 use Rattle.hex.proofs.HexLemmas.{IsAscii-encode_with}
 use Rattle.tq_store.specs.Names.{is_name_byte, is_file_name, starts_with_letter}
 use Rattle.json.specs.Json as json
 use Rattle.json.specs.Tree as tree
-use Rattle.json.proofs.Printed.Decimals.{IsNumber-decimal}
-use Rattle.json.proofs.Printed.Trees.{value-json_tokens, ArePrintable-json_tokens}
 use Rattle.serde_json.specs.Data.{unsigned, negative, float, Data, null, boolean, number, string, array, object, Items, no_items, item, Members, no_members, member, put}
 use Rattle.serde_json.specs.Read.{read, of_json, of_items, of_members, max_depth}
 use Rattle.serde_json.specs.Written.{outline, items_outline, members_outline, compact_text, items_text, members_text, comma_if}
-use Rattle.serde_json.proofs.Numbers.{number_of-decimal}
-use Rattle.serde_json.proofs.Texts.{print-outline}
-use Rattle.tq_board.specs.Values.{IsFitting, AreFitting, HasFitting}
+use Rattle.serde_json.proofs.{Numbers.number_of-decimal, Texts.print-outline}
+use Rattle.tq_board.specs.{Values.{IsFitting, AreFitting, HasFitting}, Lines.{HasNoFeed, IsLine, line_of}}
 use Rattle.tq_board.proofs.Shapes.{IsShaped, AreShaped, HasShaped, put_all}
-use Rattle.std.specs.Char.{digit_char}
-use Rattle.std.proofs.lemmas.Fmt.{decimal-digits_of, decimal_digit}
-use Rattle.tq_board.specs.Lines.{HasNoFeed, IsLine, line_of}
 
 abbrev lexemes_of : Token → List Lexeme
 lexemes_of (key s) = token (string s) ∷ colon ∷ []

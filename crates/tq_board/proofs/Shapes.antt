@@ -2,49 +2,35 @@
 -- objects each name stands once, in ascending order. What nests no deeper than so many levels nests no deeper than
 -- more of them. The values that are written nest a few levels deep, and their members stand in order.
 use Rattle.std.proofs.Common.{◌≡◌, true, ℕ, List, subst, ◌≤◌, arith, [], ◌∷◌, refl}
-use Rattle.std.specs.Cmp.Lexicographic.{nat_list_eq_equiv}
 use Rattle.std.proofs.lemmas.Map.Views.{list_any-from_Contains}
-use Rattle.tq_shape.specs.Tree.{Server}
+use Rattle.std.specs.{Cmp.Lexicographic.nat_list_eq_equiv, Prelude.{◌-◌, ◌<◌, ⊤}}
+use Rattle.tq_shape.specs.{Tree.Server, declared.part.Entry.Entry, Limits.LimitsView}
 use Rattle.tq_coterie.specs.Coterie.{coterie, numbers_of, is_quorum, IsMemberList, ServerList}
-use Rattle.std.specs.Prelude.{◌-◌, ◌<◌, ⊤}
 use Rattle.serde_json.specs.Data.{Data, null, boolean, number, string, array, object, Items, no_items, item, Members, no_members, member, put}
-use Rattle.tq_shape.specs.declared.part.Entry.{Entry}
-use Rattle.tq_shape.specs.Limits.{LimitsView}
 use Rattle.tq_store.specs.declared.write.Write.{Write}
-use Rattle.tq_asks.specs.declared.ask.CitedVote.{CitedVote}
-use Rattle.tq_asks.specs.declared.ask.HeldLock.{HeldLock}
-use Rattle.tq_asks.specs.declared.ask.NodeAsk.{NodeAsk}
+use Rattle.tq_asks.specs.declared.ask.{CitedVote.CitedVote, HeldLock.HeldLock, NodeAsk.NodeAsk, NodeRefusal.NodeRefusal}
+use Rattle.tq_asks.specs.declared.ask.{NodeReply.NodeReply, Verdict.Verdict, WorkAsk.WorkAsk}
 use Rattle.tq_asks.specs.declared.ask.NodeAsk.TheVariants as ask
-use Rattle.tq_asks.specs.declared.ask.NodeRefusal.{NodeRefusal}
 use Rattle.tq_asks.specs.declared.ask.NodeRefusal.TheVariants as refusal
-use Rattle.tq_asks.specs.declared.ask.NodeReply.{NodeReply}
 use Rattle.tq_asks.specs.declared.ask.NodeReply.TheVariants as reply
-use Rattle.tq_asks.specs.declared.ask.Verdict.{Verdict}
 use Rattle.tq_asks.specs.declared.ask.Verdict.TheVariants as verdict
-use Rattle.tq_asks.specs.declared.ask.WorkAsk.{WorkAsk}
 use Rattle.tq_asks.specs.declared.ask.WorkAsk.TheVariants as work
 use Rattle.tq_node.specs.NodeJournal.{NodeEntry}
-use Rattle.tq_evidence.specs.declared.grant.Grant.{Grant}
-use Rattle.tq_evidence.specs.declared.op.Op.{Op}
-use Rattle.tq_evidence.specs.declared.vote.Vote.{Vote}
-use Rattle.tq_desk.specs.declared.ask.DeskAsk.{DeskAsk}
-use Rattle.tq_desk.specs.declared.ask.DeskAsk.TheVariants as desk
-use Rattle.tq_desk.specs.declared.ask.DeskRefusal.{DeskRefusal}
-use Rattle.tq_desk.specs.declared.ask.DeskRefusal.TheVariants as desk_refusal
-use Rattle.tq_desk.specs.declared.ask.DeskReply.{DeskReply}
-use Rattle.tq_desk.specs.declared.ask.DeskReply.TheVariants as desk_reply
+use Rattle.tq_evidence.specs.declared.{grant.Grant.Grant, op.Op.Op, vote.Vote.Vote}
+use Rattle.tq_desk.specs.declared.ask.{DeskAsk.DeskAsk, DeskRefusal.DeskRefusal, DeskReply.DeskReply}
 use Rattle.tq_desk.specs.DeskJournal.{DeskEntry}
-use Rattle.tq_live.specs.declared.view.ViewAsk.{ViewAsk}
+use Rattle.tq_desk.specs.declared.ask.DeskAsk.TheVariants as desk
+use Rattle.tq_desk.specs.declared.ask.DeskRefusal.TheVariants as desk_refusal
+use Rattle.tq_desk.specs.declared.ask.DeskReply.TheVariants as desk_reply
+use Rattle.tq_live.specs.declared.view.{ViewAsk.ViewAsk, ViewRefusal.ViewRefusal, ViewReply.ViewReply}
 use Rattle.tq_live.specs.declared.view.ViewAsk.TheVariants as view
-use Rattle.tq_live.specs.declared.view.ViewRefusal.{ViewRefusal}
 use Rattle.tq_live.specs.declared.view.ViewRefusal.TheVariants as view_refusal
-use Rattle.tq_live.specs.declared.view.ViewReply.{ViewReply}
 use Rattle.tq_live.specs.declared.view.ViewReply.TheVariants as view_reply
 use Rattle.tq_tables.specs.Journals.{ViewEntry, JournalsView}
 use Rattle.tq_board.specs.Values.{whole, value_items, list_value, kind_value, code_value, entry_value}
+use Rattle.tq_board.specs.Form.{limits_value, journals_value}
 use Rattle.tq_board.specs.Nodes as nodes
 use Rattle.tq_board.specs.Form as forms
-use Rattle.tq_board.specs.Form.{limits_value, journals_value}
 
 pub found : (levels : ℕ) (servers : List Server) (numbers : List ℕ) → numbers_of servers ≡ numbers → IsMemberList levels servers → is_quorum levels numbers ≡ true
 found levels servers numbers same h =

@@ -1,37 +1,24 @@
 -- What the view and the desk are asked and what they reply, as values. The journals of all parts of a system, as one value of
 -- format 2.
 use Rattle.std.specs.Prelude.{codes, ℕ, List, [], ◌∷◌, ◌++◌}
-use Rattle.serde_json.specs.Data.{Data, object, member, no_members, string, boolean}
+use Rattle.serde_json.specs.{Data.{Data, object, member, no_members, string, boolean}, Written.compact_text}
 use Rattle.tq_coterie.specs.Coterie.{ServerList}
-use Rattle.tq_live.specs.Costs.{purpose_text}
-use Rattle.tq_live.specs.declared.purpose.Purpose.{Purpose}
-use Rattle.tq_live.specs.declared.view.ViewAsk.{ViewAsk}
-use Rattle.tq_live.specs.declared.view.ViewAsk.TheVariants.{SetCost, Mark, Choose}
-use Rattle.tq_live.specs.declared.view.ViewReply.{ViewReply}
-use Rattle.tq_live.specs.declared.view.ViewReply.TheVariants as told
+use Rattle.tq_live.specs.{Costs.purpose_text, declared.purpose.Purpose.Purpose, declared.view.ViewAsk.ViewAsk}
+use Rattle.tq_live.specs.declared.view.{ViewAsk.TheVariants.{SetCost, Mark, Choose}, ViewReply.ViewReply}
 use Rattle.tq_live.specs.declared.view.ViewRefusal.{ViewRefusal}
 use Rattle.tq_live.specs.declared.view.ViewRefusal.TheVariants.{NoSuchServer, BadCost, Blocked}
+use Rattle.tq_live.specs.declared.view.ViewReply.TheVariants as told
 use Rattle.tq_tables.specs.Journals.{ViewEntry, JournalsView}
 use Rattle.tq_board.specs.Values.{whole, list_value, kind_value, code_value, entry_value, content_value}
-use Rattle.tq_evidence.specs.declared.grant.Grant.{Grant}
-use Rattle.tq_evidence.specs.declared.op.Op.{Op}
-use Rattle.tq_evidence.specs.declared.op.OpKind.{OpKind}
-use Rattle.tq_evidence.specs.declared.op.OpKind.TheVariants.{Read, Write}
-use Rattle.tq_evidence.specs.declared.vote.Vote.{Vote}
-use Rattle.tq_evidence.specs.declared.rule.Rule.{Rule}
-use Rattle.tq_evidence.specs.Evidence.{rule_number}
-use Rattle.tq_desk.specs.declared.ask.DeskAsk.{DeskAsk}
-use Rattle.tq_desk.specs.declared.ask.DeskAsk.TheVariants.{Begin, Commit, Resolve}
-use Rattle.tq_desk.specs.declared.ask.DeskRefusal.{DeskRefusal}
-use Rattle.tq_desk.specs.declared.ask.DeskRefusal.TheVariants.{NoSuchTxn, Decided, TooManyOps, BadEvidence, TooManyFiles}
-use Rattle.tq_desk.specs.declared.ask.DeskReply.{DeskReply}
-use Rattle.tq_desk.specs.declared.ask.DeskReply.TheVariants.{Txn, Verdict, Committed, Refused}
-use Rattle.tq_desk.specs.DeskJournal.{DeskEntry}
 use Rattle.tq_board.specs.Nodes.{mode_value, write_value, held_value, verdict_value, node_entry_value}
-use Rattle.serde_json.specs.Written.{compact_text}
+use Rattle.tq_evidence.specs.declared.{grant.Grant.Grant, op.Op.Op, op.OpKind.OpKind, vote.Vote.Vote, rule.Rule.Rule}
+use Rattle.tq_evidence.specs.{declared.op.OpKind.TheVariants.{Read, Write}, Evidence.rule_number}
+use Rattle.tq_desk.specs.declared.ask.{DeskAsk.DeskAsk, DeskAsk.TheVariants.{Begin, Commit, Resolve}}
+use Rattle.tq_desk.specs.{declared.ask.DeskRefusal.DeskRefusal, declared.ask.DeskReply.DeskReply, DeskJournal.DeskEntry}
+use Rattle.tq_desk.specs.declared.ask.DeskRefusal.TheVariants.{NoSuchTxn, Decided, TooManyOps, BadEvidence, TooManyFiles}
+use Rattle.tq_desk.specs.declared.ask.DeskReply.TheVariants.{Txn, Verdict, Committed, Refused}
 use Rattle.tq_shape.specs.Limits.{LimitsView}
-use Rattle.tq_json.specs.declared.format.Format.TheVariants.{Two}
-use Rattle.tq_json.specs.Member.{format_number}
+use Rattle.tq_json.specs.{declared.format.Format.TheVariants.Two, Member.format_number}
 
 -- the servers of a quorum or of a blocker, by their numbers
 abbrev pub servers_value : ServerList → Data

@@ -1,16 +1,14 @@
 -- What is put behind a text. Texts that are read as journals. Values as lines of bytes: an entry, and the answer to an
 -- ask. Text that goes to a sink as it comes.
 use Rattle.std.specs.Prelude.{ℕ, List, ◌++◌, Result, OnOk, ◌≡◌, [], ◌∷◌, ⊤, codes, ◌+◌, ◌-◌, ◌^◌, ◌<◌, Bool, false, cond, Option, Ok, Err}
-use Rattle.serde_json.specs.Data.{Data, object, member, no_members}
+use Rattle.std.specs.Io.KnownBytes.{Appends}
+use Rattle.serde_json.specs.{Data.{Data, object, member, no_members}, Written.compact_text}
 use Rattle.tq_json.specs.declared.format.Format.TheVariants.{Two}
 use Rattle.tq_json_read.specs.Frame.{IsJson, IsInFormat}
 use Rattle.tq_tables.specs.Journals.{JournalsView}
-use Rattle.serde_json.specs.Written.{compact_text}
 use Rattle.tq_shape.specs.Journal.{entry}
 use Rattle.tq_board.specs.Values.{whole, entry_value}
-use Rattle.std.specs.Io.KnownBytes.{Appends}
-use Rattle.tq_devices.specs.declared.fault.RunFault.{RunFault}
-use Rattle.tq_devices.specs.declared.fault.RunFault.TheVariants.{Memory, Read, Write, TooLong}
+use Rattle.tq_devices.specs.declared.fault.{RunFault.RunFault, RunFault.TheVariants.{Memory, Read, Write, TooLong}}
 use Rattle.tq_devices.specs.Devices.{IsWritten}
 
 -- these bytes were put between two states of an output, whatever was put before: `Puts` says what was put from a first state to a later one

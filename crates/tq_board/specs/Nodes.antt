@@ -2,19 +2,12 @@
 use Rattle.std.specs.Prelude.{ℕ, List, codes}
 use Rattle.serde_json.specs.Data.{Data, object, member, no_members, string}
 use Rattle.tq_store.specs.declared.write.Write.{Write}
-use Rattle.tq_locks.specs.Locks.{mode_text}
-use Rattle.tq_locks.specs.declared.mode.Mode.{Mode}
-use Rattle.tq_asks.specs.declared.ask.CitedVote.{CitedVote}
-use Rattle.tq_asks.specs.declared.ask.HeldLock.{HeldLock}
-use Rattle.tq_asks.specs.declared.ask.NodeAsk.{NodeAsk}
-use Rattle.tq_asks.specs.declared.ask.NodeAsk.TheVariants.{Work, Crash, Return, CrashIn}
-use Rattle.tq_asks.specs.declared.ask.NodeRefusal.{NodeRefusal}
+use Rattle.tq_locks.specs.{Locks.mode_text, declared.mode.Mode.Mode}
+use Rattle.tq_asks.specs.declared.ask.{CitedVote.CitedVote, HeldLock.HeldLock, NodeAsk.NodeAsk, NodeRefusal.NodeRefusal}
+use Rattle.tq_asks.specs.declared.ask.{NodeAsk.TheVariants.{Work, Crash, Return, CrashIn}, NodeReply.NodeReply}
 use Rattle.tq_asks.specs.declared.ask.NodeRefusal.TheVariants.{Down, AlreadyUp, AlreadyDown, Held, Prepared, NotLocked, BadWrites, NotNewer, NothingHere}
-use Rattle.tq_asks.specs.declared.ask.NodeReply.{NodeReply}
 use Rattle.tq_asks.specs.declared.ask.NodeReply.TheVariants.{Granted, Yes, Installed, Discarded, Released, Copy, Refreshed, Crashed, Returned, Refused}
-use Rattle.tq_asks.specs.declared.ask.Verdict.{Verdict}
-use Rattle.tq_asks.specs.declared.ask.Verdict.TheVariants.{Abort, Commit}
-use Rattle.tq_asks.specs.declared.ask.WorkAsk.{WorkAsk}
+use Rattle.tq_asks.specs.declared.ask.{Verdict.Verdict, Verdict.TheVariants.{Abort, Commit}, WorkAsk.WorkAsk}
 use Rattle.tq_asks.specs.declared.ask.WorkAsk.TheVariants.{Lock, Prepare, Decide, Release, Peek, Refresh}
 use Rattle.tq_node.specs.NodeJournal.{NodeEntry}
 use Rattle.tq_board.specs.Values.{whole, content_value, list_value, kind_value, code_value, entry_value}

@@ -1,33 +1,23 @@
 -- What the types keep of the values in journals: names of files are such names, contents are bytes and not too many, and
 -- quorums and blockers are of the coterie of their tree.
-use Rattle.std.specs.Prelude.{◌≡◌, ◌≤◌, ℕ, true, List, length, ⊤}
-use Rattle.std.specs.List.{AllByRecursion}
+use Rattle.std.specs.{Prelude.{◌≡◌, ◌≤◌, ℕ, true, List, length, ⊤}, List.AllByRecursion}
 use Rattle.hex.specs.Hex.{IsBytes}
-use Rattle.tq_shape.specs.declared.part.Entry.{Entry}
-use Rattle.tq_shape.specs.Limits.{LimitsView, AreLimits}
-use Rattle.tq_store.specs.Names.{is_file_name}
-use Rattle.tq_store.specs.declared.write.Write.{Write}
+use Rattle.tq_shape.specs.{declared.part.Entry.Entry, Limits.{LimitsView, AreLimits}}
+use Rattle.tq_store.specs.{Names.is_file_name, declared.write.Write.Write}
 use Rattle.tq_coterie.specs.Coterie.{ServerList, is_quorum}
-use Rattle.tq_asks.specs.declared.ask.HeldLock.{HeldLock}
-use Rattle.tq_asks.specs.declared.ask.NodeAsk.{NodeAsk}
-use Rattle.tq_asks.specs.declared.ask.NodeAsk.TheVariants as ask
-use Rattle.tq_asks.specs.declared.ask.NodeRefusal.{NodeRefusal}
-use Rattle.tq_asks.specs.declared.ask.NodeRefusal.TheVariants as refusal
-use Rattle.tq_asks.specs.declared.ask.NodeReply.{NodeReply}
-use Rattle.tq_asks.specs.declared.ask.NodeReply.TheVariants as reply
+use Rattle.tq_asks.specs.declared.ask.{HeldLock.HeldLock, NodeAsk.NodeAsk, NodeRefusal.NodeRefusal, NodeReply.NodeReply}
 use Rattle.tq_asks.specs.declared.ask.WorkAsk.{WorkAsk}
+use Rattle.tq_asks.specs.declared.ask.NodeAsk.TheVariants as ask
+use Rattle.tq_asks.specs.declared.ask.NodeRefusal.TheVariants as refusal
+use Rattle.tq_asks.specs.declared.ask.NodeReply.TheVariants as reply
 use Rattle.tq_asks.specs.declared.ask.WorkAsk.TheVariants as work
-use Rattle.tq_evidence.specs.declared.grant.Grant.{Grant}
-use Rattle.tq_evidence.specs.declared.op.Op.{Op}
-use Rattle.tq_evidence.specs.declared.vote.Vote.{Vote}
-use Rattle.tq_desk.specs.declared.ask.DeskAsk.{DeskAsk}
+use Rattle.tq_evidence.specs.declared.{grant.Grant.Grant, op.Op.Op, vote.Vote.Vote}
+use Rattle.tq_desk.specs.{declared.ask.DeskAsk.DeskAsk, DeskJournal.DeskEntry}
 use Rattle.tq_desk.specs.declared.ask.DeskAsk.TheVariants as desk
-use Rattle.tq_live.specs.declared.view.ViewRefusal.{ViewRefusal}
+use Rattle.tq_live.specs.declared.view.{ViewRefusal.ViewRefusal, ViewReply.ViewReply}
 use Rattle.tq_live.specs.declared.view.ViewRefusal.TheVariants as view_refusal
-use Rattle.tq_live.specs.declared.view.ViewReply.{ViewReply}
 use Rattle.tq_live.specs.declared.view.ViewReply.TheVariants as view_reply
 use Rattle.tq_node.specs.NodeJournal.{NodeEntry}
-use Rattle.tq_desk.specs.DeskJournal.{DeskEntry}
 use Rattle.tq_tables.specs.Journals.{ViewEntry, JournalsView, AreJournals}
 
 -- any value of the type will do

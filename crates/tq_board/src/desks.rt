@@ -6,8 +6,7 @@ use tq_desk::{DeskAsk, DeskRefusal, DeskReply};
 use tq_evidence::{Grant, Op, OpKind, Rule, Vote};
 
 impl ToJson for OpKind {
-    ghost use Rattle.tq_board.specs.Form.{op_kind_value};
-    ghost use Rattle.tq_board.specs.Sound.{IsAny};
+    ghost use Rattle.tq_board.specs.{Form.op_kind_value, Sound.IsAny};
 
     ghost value = { op_kind_value };
 
@@ -23,8 +22,7 @@ impl ToJson for OpKind {
 }
 
 impl ToJson for Grant {
-    ghost use Rattle.tq_board.specs.Form.{grant_value};
-    ghost use Rattle.tq_board.specs.Sound.{IsGrant};
+    ghost use Rattle.tq_board.specs.{Form.grant_value, Sound.IsGrant};
 
     ghost value = { grant_value };
 
@@ -41,8 +39,7 @@ impl ToJson for Grant {
 }
 
 impl ToJson for Op {
-    ghost use Rattle.tq_board.specs.Form.{op_value};
-    ghost use Rattle.tq_board.specs.Sound.{IsOp};
+    ghost use Rattle.tq_board.specs.{Form.op_value, Sound.IsOp};
 
     ghost value = { op_value };
 
@@ -59,8 +56,7 @@ impl ToJson for Op {
 }
 
 impl ToJson for Vote {
-    ghost use Rattle.tq_board.specs.Form.{vote_value};
-    ghost use Rattle.tq_board.specs.Sound.{IsVote};
+    ghost use Rattle.tq_board.specs.{Form.vote_value, Sound.IsVote};
 
     ghost value = { vote_value };
 
@@ -76,8 +72,7 @@ impl ToJson for Vote {
 }
 
 impl ToJson for DeskAsk {
-    ghost use Rattle.tq_board.specs.Form.{desk_ask_value};
-    ghost use Rattle.tq_board.specs.Sound.{IsDeskAsk};
+    ghost use Rattle.tq_board.specs.{Form.desk_ask_value, Sound.IsDeskAsk};
 
     ghost value = { desk_ask_value };
 
@@ -101,8 +96,7 @@ impl ToJson for DeskAsk {
 }
 
 impl ToJson for Rule {
-    ghost use Rattle.tq_board.specs.Form.{rule_value};
-    ghost use Rattle.tq_board.specs.Sound.{IsAny};
+    ghost use Rattle.tq_board.specs.{Form.rule_value, Sound.IsAny};
 
     ghost value = { rule_value };
 
@@ -114,8 +108,7 @@ impl ToJson for Rule {
 }
 
 impl ToJson for DeskRefusal {
-    ghost use Rattle.tq_board.specs.Form.{desk_refusal_value};
-    ghost use Rattle.tq_board.specs.Sound.{IsAny};
+    ghost use Rattle.tq_board.specs.{Form.desk_refusal_value, Sound.IsAny};
 
     ghost value = { desk_refusal_value };
 
@@ -141,8 +134,7 @@ impl ToJson for DeskRefusal {
 }
 
 impl ToJson for DeskReply {
-    ghost use Rattle.tq_board.specs.Form.{desk_reply_value};
-    ghost use Rattle.tq_board.specs.Sound.{IsAny};
+    ghost use Rattle.tq_board.specs.{Form.desk_reply_value, Sound.IsAny};
 
     ghost value = { desk_reply_value };
 

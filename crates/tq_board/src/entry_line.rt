@@ -1,10 +1,8 @@
 //! One entry, and the answer to one ask, as a line each.
-ghost use Rattle.std.specs.Prelude.{◌≡◌, OnOk, IfOk};
-ghost use Rattle.std.specs.String.{string_bytes};
+ghost use Rattle.std.specs.{Prelude.{◌≡◌, OnOk, IfOk}, String.string_bytes};
 ghost use Rattle.serde_json.specs.Written.{compact_text};
 ghost use Rattle.tq_shape.specs.Journal.{entry};
-ghost use Rattle.tq_board.specs.Values.{IsFitting, entry_value};
-ghost use Rattle.tq_board.specs.Lines.{IsLine, entry_line, answer_line, Adds};
+ghost use Rattle.tq_board.specs.{Values.{IsFitting, entry_value}, Lines.{IsLine, entry_line, answer_line, Adds}};
 
 use crate::out::{Out, Text};
 use crate::to_json::ToJson;

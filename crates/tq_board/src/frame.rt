@@ -1,10 +1,7 @@
 //! The journals of all parts as one text.
-ghost use Rattle.std.specs.Prelude.{◌≡◌, ◌-◌, ◌^◌, ◌<◌, ◌∷◌, [], ◌++◌, IfOk, OnOk};
-ghost use Rattle.std.specs.String.{string_bytes};
+ghost use Rattle.std.specs.{Prelude.{◌≡◌, ◌-◌, ◌^◌, ◌<◌, ◌∷◌, [], ◌++◌, IfOk, OnOk}, String.string_bytes};
 ghost use Rattle.serde_json.specs.Written.{compact_text};
-ghost use Rattle.tq_board.specs.Form.{journals_line, journals_value};
-ghost use Rattle.tq_board.specs.Values.{IsFitting};
-ghost use Rattle.tq_board.specs.Sound.{AreSound};
+ghost use Rattle.tq_board.specs.{Form.{journals_line, journals_value}, Values.IsFitting, Sound.AreSound};
 ghost use Rattle.tq_board.specs.Lines.{IsSpilled, IsWrittenOut, spill, IsTextOf, Adds};
 
 use crate::out::{Out, Text};
@@ -18,8 +15,7 @@ use tq_shape::{Limits, Memory};
 use tq_tables::Journals;
 
 impl ToJson for Limits {
-    ghost use Rattle.tq_board.specs.Form.{limits_value};
-    ghost use Rattle.tq_board.specs.Sound.{HasLimits};
+    ghost use Rattle.tq_board.specs.{Form.limits_value, Sound.HasLimits};
 
     ghost value = { limits_value };
 

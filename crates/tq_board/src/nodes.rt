@@ -2,10 +2,7 @@
 ghost use Rattle.std.specs.Prelude.{◌≤◌, OnOk};
 ghost use Rattle.serde_json.specs.Written.{compact_text};
 ghost use Rattle.tq_asks.specs.declared.ask.NodeAsk.{NodeAsk};
-ghost use Rattle.tq_board.specs.Nodes.{node_ask_value};
-ghost use Rattle.tq_board.specs.Values.{IsFitting};
-ghost use Rattle.tq_board.specs.Sound.{IsWork};
-ghost use Rattle.tq_board.specs.Lines.{Adds};
+ghost use Rattle.tq_board.specs.{Nodes.node_ask_value, Values.IsFitting, Sound.IsWork, Lines.Adds};
 
 use crate::codes;
 use crate::out::Out;
@@ -14,8 +11,7 @@ use tq_asks::{CitedVote, HeldLock, NodeAsk, NodeRefusal, NodeReply, Verdict, Wor
 use tq_store::Write;
 
 impl ToJson for CitedVote {
-    ghost use Rattle.tq_board.specs.Nodes.{cited_value};
-    ghost use Rattle.tq_board.specs.Sound.{IsAny};
+    ghost use Rattle.tq_board.specs.{Nodes.cited_value, Sound.IsAny};
 
     ghost value = { cited_value };
 
@@ -29,8 +25,7 @@ impl ToJson for CitedVote {
 }
 
 impl ToJson for Write {
-    ghost use Rattle.tq_board.specs.Nodes.{write_value};
-    ghost use Rattle.tq_board.specs.Sound.{IsWrite};
+    ghost use Rattle.tq_board.specs.{Nodes.write_value, Sound.IsWrite};
 
     ghost value = { write_value };
 
@@ -45,8 +40,7 @@ impl ToJson for Write {
 }
 
 impl ToJson for HeldLock {
-    ghost use Rattle.tq_board.specs.Nodes.{held_value};
-    ghost use Rattle.tq_board.specs.Sound.{IsHeldLock};
+    ghost use Rattle.tq_board.specs.{Nodes.held_value, Sound.IsHeldLock};
 
     ghost value = { held_value };
 
@@ -61,8 +55,7 @@ impl ToJson for HeldLock {
 }
 
 impl ToJson for Verdict {
-    ghost use Rattle.tq_board.specs.Nodes.{verdict_value};
-    ghost use Rattle.tq_board.specs.Sound.{IsAny};
+    ghost use Rattle.tq_board.specs.{Nodes.verdict_value, Sound.IsAny};
 
     ghost value = { verdict_value };
 
@@ -80,8 +73,7 @@ impl ToJson for Verdict {
 }
 
 impl ToJson for WorkAsk {
-    ghost use Rattle.tq_board.specs.Nodes.{work_value};
-    ghost use Rattle.tq_board.specs.Sound.{IsWork};
+    ghost use Rattle.tq_board.specs.{Nodes.work_value, Sound.IsWork};
 
     ghost value = { work_value };
 
@@ -131,8 +123,7 @@ impl ToJson for WorkAsk {
 }
 
 impl ToJson for NodeAsk {
-    ghost use Rattle.tq_board.specs.Nodes.{node_ask_value};
-    ghost use Rattle.tq_board.specs.Sound.{IsNodeAsk};
+    ghost use Rattle.tq_board.specs.{Nodes.node_ask_value, Sound.IsNodeAsk};
 
     ghost value = { node_ask_value };
 
@@ -161,8 +152,7 @@ fn put_stop<O: Out>(out: &mut O, ask: &WorkAsk, after: u32) -> Result<(), O::Fau
 }
 
 impl ToJson for NodeRefusal {
-    ghost use Rattle.tq_board.specs.Nodes.{node_refusal_value};
-    ghost use Rattle.tq_board.specs.Sound.{IsNodeRefusal};
+    ghost use Rattle.tq_board.specs.{Nodes.node_refusal_value, Sound.IsNodeRefusal};
 
     ghost value = { node_refusal_value };
 
@@ -192,8 +182,7 @@ impl ToJson for NodeRefusal {
 }
 
 impl ToJson for NodeReply {
-    ghost use Rattle.tq_board.specs.Nodes.{node_reply_value};
-    ghost use Rattle.tq_board.specs.Sound.{IsNodeReply};
+    ghost use Rattle.tq_board.specs.{Nodes.node_reply_value, Sound.IsNodeReply};
 
     ghost value = { node_reply_value };
 

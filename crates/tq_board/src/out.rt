@@ -1,6 +1,5 @@
 //! What text is put into, and text in the making.
-ghost use Rattle.std.specs.Prelude.{◌≡◌, []};
-ghost use Rattle.std.specs.String.{string_bytes};
+ghost use Rattle.std.specs.{Prelude.{◌≡◌, []}, String.string_bytes};
 
 use std::alloc::Global;
 use std::marker::Model;
@@ -8,9 +7,7 @@ use tq_shape::Memory;
 
 /// What text is put into, a piece behind another.
 pub trait Out {
-    ghost use Rattle.std.specs.Prelude.{List, ℕ, ◌≤◌, ◌++◌, length};
-    ghost use Rattle.std.specs.Fmt.{decimal};
-    ghost use Rattle.std.specs.Str.{IsAscii};
+    ghost use Rattle.std.specs.{Prelude.{List, ℕ, ◌≤◌, ◌++◌, length}, Fmt.decimal, Str.IsAscii};
     ghost use Rattle.hex.specs.Hex.{encode_lower};
     ghost use Rattle.tq_board.specs.Lines.{Adds, in_quotes};
 
@@ -48,9 +45,7 @@ pub(crate) struct Text {
 }
 
 impl Model for Text {
-    ghost use Rattle.std.specs.Prelude.{List, ℕ};
-    ghost use Rattle.std.specs.Str.{IsUtf8};
-    ghost use Rattle.std.specs.Coded.{coded_list, coded_ℕ};
+    ghost use Rattle.std.specs.{Prelude.{List, ℕ}, Str.IsUtf8, Coded.{coded_list, coded_ℕ}};
 
     ghost Value = { List ℕ };
 

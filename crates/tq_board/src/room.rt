@@ -1,6 +1,5 @@
 //! The room in which text waits to be written.
-ghost use Rattle.std.specs.Prelude.{◌≡◌, ◌+◌, ◌*◌, ◌≤◌, [], ◌++◌, IfOk, length, drop};
-ghost use Rattle.std.specs.Fmt.{decimal};
+ghost use Rattle.std.specs.{Prelude.{◌≡◌, ◌+◌, ◌*◌, ◌≤◌, [], ◌++◌, IfOk, length, drop}, Fmt.decimal};
 ghost use Rattle.hex.specs.Hex.{encode_lower};
 ghost use Rattle.tq_board.specs.Lines.{in_quotes};
 
@@ -21,8 +20,7 @@ pub(crate) struct Room {
 }
 
 impl Model for Room {
-    ghost use Rattle.std.specs.Prelude.{◌≡◌, ◌≤◌, List, ℕ, length, take};
-    ghost use Rattle.std.specs.Coded.{coded_list, coded_ℕ};
+    ghost use Rattle.std.specs.{Prelude.{◌≡◌, ◌≤◌, List, ℕ, length, take}, Coded.{coded_list, coded_ℕ}};
 
     ghost Value = { List ℕ };
 

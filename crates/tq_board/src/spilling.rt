@@ -1,6 +1,5 @@
 //! Text that is written as it comes.
-ghost use Rattle.std.specs.Prelude.{◌≡◌, ◌+◌, ◌-◌, ◌^◌, ◌<◌, ◌≤◌, [], ◌++◌, length};
-ghost use Rattle.std.specs.Fmt.{decimal};
+ghost use Rattle.std.specs.{Prelude.{◌≡◌, ◌+◌, ◌-◌, ◌^◌, ◌<◌, ◌≤◌, [], ◌++◌, length}, Fmt.decimal};
 ghost use Rattle.hex.specs.Hex.{encode_lower};
 ghost use Rattle.tq_board.specs.Lines.{Ends, IsSpilled, Settles, Spills, in_quotes, spill};
 

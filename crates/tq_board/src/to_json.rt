@@ -1,9 +1,7 @@
 //! What the form has a value for, and the lists of such values.
-ghost use Rattle.std.specs.Prelude.{OnOk};
-ghost use Rattle.std.specs.List.{AllByRecursion};
+ghost use Rattle.std.specs.{Prelude.OnOk, List.AllByRecursion};
 ghost use Rattle.serde_json.specs.Written.{comma_if, compact_text};
-ghost use Rattle.tq_board.specs.Values.{code_value, list_value, IsFitting};
-ghost use Rattle.tq_board.specs.Lines.{Adds};
+ghost use Rattle.tq_board.specs.{Values.{code_value, list_value, IsFitting}, Lines.Adds};
 
 use crate::out::Out;
 
@@ -48,10 +46,8 @@ fn put_comma<O: Out>(out: &mut O, later: bool) -> Result<(), O::Fault>
 /// What the form has a value for, so that it can be written.
 pub trait ToJson {
     ghost use Rattle.std.specs.Prelude.{◌++◌, OnOk};
-    ghost use Rattle.serde_json.specs.Data.{Data};
-    ghost use Rattle.serde_json.specs.Written.{compact_text};
-    ghost use Rattle.tq_board.specs.Values.{IsFitting};
-    ghost use Rattle.tq_board.specs.Lines.{Adds};
+    ghost use Rattle.serde_json.specs.{Data.Data, Written.compact_text};
+    ghost use Rattle.tq_board.specs.{Values.IsFitting, Lines.Adds};
 
     /// The value of the form.
     ghost value: { Self → Data };

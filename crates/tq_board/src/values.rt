@@ -9,8 +9,7 @@ use tq_shape::{Entry, Seq, ServerId, SharedSeq};
 use tq_store::{Content, FileName};
 
 impl ToJson for u64 {
-    ghost use Rattle.tq_board.specs.Values.{whole};
-    ghost use Rattle.tq_board.specs.Sound.{IsAny};
+    ghost use Rattle.tq_board.specs.{Values.whole, Sound.IsAny};
 
     ghost value = { whole };
 
@@ -26,8 +25,7 @@ impl ToJson for u64 {
 }
 
 impl ToJson for u32 {
-    ghost use Rattle.tq_board.specs.Values.{whole};
-    ghost use Rattle.tq_board.specs.Sound.{IsAny};
+    ghost use Rattle.tq_board.specs.{Values.whole, Sound.IsAny};
 
     ghost value = { whole };
 
@@ -59,8 +57,7 @@ impl ToJson for bool {
 }
 
 impl ToJson for ServerId {
-    ghost use Rattle.tq_board.specs.Values.{whole};
-    ghost use Rattle.tq_board.specs.Sound.{IsAny};
+    ghost use Rattle.tq_board.specs.{Values.whole, Sound.IsAny};
 
     ghost value = { λ server. whole server.number };
 
@@ -94,8 +91,7 @@ impl ToJson for FileName {
 }
 
 impl ToJson for Mode {
-    ghost use Rattle.tq_board.specs.Nodes.{mode_value};
-    ghost use Rattle.tq_board.specs.Sound.{IsAny};
+    ghost use Rattle.tq_board.specs.{Nodes.mode_value, Sound.IsAny};
 
     ghost value = { mode_value };
 
@@ -111,8 +107,7 @@ impl ToJson for Mode {
 }
 
 impl ToJson for Purpose {
-    ghost use Rattle.tq_board.specs.Form.{purpose_value};
-    ghost use Rattle.tq_board.specs.Sound.{IsAny};
+    ghost use Rattle.tq_board.specs.{Form.purpose_value, Sound.IsAny};
 
     ghost value = { purpose_value };
 
@@ -128,8 +123,7 @@ impl ToJson for Purpose {
 }
 
 impl ToJson for Content {
-    ghost use Rattle.tq_board.specs.Values.{content_value};
-    ghost use Rattle.tq_board.specs.Sound.{IsContent};
+    ghost use Rattle.tq_board.specs.{Values.content_value, Sound.IsContent};
 
     ghost value = { content_value };
 
@@ -198,8 +192,7 @@ impl<T: ToJson> ToJson for Vec<T> {
 }
 
 impl<A: ToJson, R: ToJson> ToJson for Entry<A, R> {
-    ghost use Rattle.tq_board.specs.Values.{entry_value};
-    ghost use Rattle.tq_board.specs.Sound.{IsEntry};
+    ghost use Rattle.tq_board.specs.{Values.entry_value, Sound.IsEntry};
 
     ghost value = { entry_value A.value R.value };
 

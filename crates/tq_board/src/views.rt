@@ -2,8 +2,7 @@
 ghost use Rattle.std.specs.Prelude.{OnOk};
 ghost use Rattle.serde_json.specs.Written.{compact_text};
 ghost use Rattle.tq_coterie.specs.Coterie.{numbers_of};
-ghost use Rattle.tq_board.specs.Values.{list_value, whole, IsFitting};
-ghost use Rattle.tq_board.specs.Lines.{Adds};
+ghost use Rattle.tq_board.specs.{Values.{list_value, whole, IsFitting}, Lines.Adds};
 
 use crate::codes;
 use crate::out::Out;
@@ -23,8 +22,7 @@ fn put_servers<O: Out>(out: &mut O, servers: &[ServerId]) -> Result<(), O::Fault
 }
 
 impl<Role> ToJson for Member<Role> {
-    ghost use Rattle.tq_board.specs.Form.{servers_value};
-    ghost use Rattle.tq_board.specs.Sound.{IsMember};
+    ghost use Rattle.tq_board.specs.{Form.servers_value, Sound.IsMember};
 
     ghost value = { servers_value };
 
@@ -37,8 +35,7 @@ impl<Role> ToJson for Member<Role> {
 }
 
 impl ToJson for ViewAsk {
-    ghost use Rattle.tq_board.specs.Form.{view_ask_value};
-    ghost use Rattle.tq_board.specs.Sound.{IsAny};
+    ghost use Rattle.tq_board.specs.{Form.view_ask_value, Sound.IsAny};
 
     ghost value = { view_ask_value };
 
@@ -70,8 +67,7 @@ impl ToJson for ViewAsk {
 }
 
 impl ToJson for ViewRefusal {
-    ghost use Rattle.tq_board.specs.Form.{view_refusal_value};
-    ghost use Rattle.tq_board.specs.Sound.{IsViewRefusal};
+    ghost use Rattle.tq_board.specs.{Form.view_refusal_value, Sound.IsViewRefusal};
 
     ghost value = { view_refusal_value };
 
@@ -91,8 +87,7 @@ impl ToJson for ViewRefusal {
 }
 
 impl ToJson for ViewReply {
-    ghost use Rattle.tq_board.specs.Form.{view_reply_value};
-    ghost use Rattle.tq_board.specs.Sound.{IsViewReply};
+    ghost use Rattle.tq_board.specs.{Form.view_reply_value, Sound.IsViewReply};
 
     ghost value = { view_reply_value };
 

@@ -1,15 +1,10 @@
 -- A number behind a text, digit by digit. Lists of words, and lines of servers upwards.
 use Rattle.std.proofs.Common.{◌≡◌, ℕ, ◌+◌, ◌/◌, ◌%◌, ◌^◌, ◌<◌, ◌≤◌, List, [], ◌∷◌, ◌++◌, append_assoc, sym, ap, ◌∙◌, suc, ◌-◌, map, refl, arith}
-use Rattle.std.specs.Prelude.{Result, Ok, Err, OnOk, is_ok, if◌then◌else◌}
-use Rattle.std.specs.Fmt.{decimal}
-use Rattle.std.proofs.lemmas.Fmt.{decimal_digit, decimal_step}
-use Rattle.std.proofs.lemmas.List.{append-nil}
-use Rattle.std.specs.List.{flat_map}
-use Rattle.tq_shape.specs.Tree.{Server}
-use Rattle.tq_shape.specs.ServerSet.{servers_of_numbers}
+use Rattle.std.proofs.lemmas.{Fmt.{decimal_digit, decimal_step}, List.append-nil}
+use Rattle.std.specs.{Prelude.{Result, Ok, Err, OnOk, is_ok, if◌then◌else◌}, Fmt.decimal, List.flat_map}
+use Rattle.tq_shape.specs.{Tree.Server, ServerSet.servers_of_numbers}
 use Rattle.tq_coterie.specs.Coterie.{numbers_of}
-use Rattle.tq_live.specs.Live.{Live}
-use Rattle.tq_live.specs.View.{upwards}
+use Rattle.tq_live.specs.{Live.Live, View.upwards}
 use Rattle.tq_tables.specs.Tables.{TablesView}
 use Rattle.tq_board_text.specs.Board.{words_after_spaces, words_or_dash, server_line, servers_text}
 

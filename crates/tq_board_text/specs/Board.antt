@@ -1,25 +1,14 @@
 -- The text of the board: what an operator sees of the tables, beside the costs and marks of a view. The servers of a
 -- file's row as text.
 use Rattle.std.specs.Prelude.{◌≡◌, ℕ, ◌-◌, ◌^◌, Bool, true, false, List, [], ◌∷◌, ◌++◌, map, String, Option, Some, None, codes, slice_index_or, ◌&&◌, nat_eq}
-use Rattle.std.specs.List.{flat_map}
-use Rattle.std.specs.String.{string_bytes}
-use Rattle.std.specs.Fmt.{decimal}
-use Rattle.tq_live.specs.Live.{Live, costs_of, is_up}
-use Rattle.tq_live.specs.View.{upwards}
-use Rattle.tq_live.specs.declared.costs.Costs.{Costs}
+use Rattle.std.specs.{List.flat_map, String.string_bytes, Fmt.decimal, Cmp.Lexicographic.pointwise, Borrow.Bor}
+use Rattle.tq_live.specs.{Live.{Live, costs_of, is_up}, View.upwards, declared.costs.Costs.Costs}
 use Rattle.tq_live.specs.declared.least.Least.{Least}
-use Rattle.tq_tables.specs.Tables.{TablesView}
-use Rattle.tq_tables.specs.declared.quorum_rows.QuorumRow.{QuorumRow}
-use Rattle.tq_tables.specs.Rows.{no_quorums}
-use Rattle.tq_tables.specs.declared.file_row.FileRow.{FileRow}
-use Rattle.tq_tables.specs.declared.lock_rows.LockRow.{LockRow}
-use Rattle.tq_tables.specs.declared.intent_rows.FileVersion.{FileVersion}
-use Rattle.tq_tables.specs.declared.intent_rows.IntentRow.{IntentRow}
-use Rattle.tq_tables.specs.declared.intent_rows.IntentState.{IntentState}
+use Rattle.tq_tables.specs.{Tables.TablesView, declared.quorum_rows.QuorumRow.QuorumRow, Rows.no_quorums}
+use Rattle.tq_tables.specs.declared.{file_row.FileRow.FileRow, lock_rows.LockRow.LockRow}
+use Rattle.tq_tables.specs.declared.intent_rows.{FileVersion.FileVersion, IntentRow.IntentRow, IntentState.IntentState}
 use Rattle.tq_tables.specs.declared.intent_rows.IntentState.TheVariants.{Unknown, Undecided, Abort, Install, Discard}
 use Rattle.tq_locks.specs.Locks.{mode_text}
-use Rattle.std.specs.Cmp.Lexicographic.{pointwise}
-use Rattle.std.specs.Borrow.{Bor}
 
 -- these bytes were put behind the text
 abbrev pub Appends : {Z : Type 0} → String Z → String Z → List ℕ → Type 0

@@ -1,7 +1,6 @@
 //! Words and lists of words.
 
-ghost use Rattle.std.specs.Prelude.{◌≡◌, ◌+◌, ◌<◌, ◌∷◌, OnOk, map};
-ghost use Rattle.std.specs.Fmt.{decimal};
+ghost use Rattle.std.specs.{Prelude.{◌≡◌, ◌+◌, ◌<◌, ◌∷◌, OnOk, map}, Fmt.decimal};
 ghost use Rattle.tq_tables.specs.Rows.{file_version};
 ghost use Rattle.tq_board_text.specs.Board.{Appends, words_or_dash, mark_text, servers_text, state_text, write_text};
 

@@ -1,11 +1,8 @@
 -- What a caller of a cell was told.
 use Rattle.std.specs.Prelude.{◌≡◌, ◌≤◌, ◌⊎◌, ◌-◌, ◌+◌, ℕ, zero, suc, List, [], ◌∷◌, ◌++◌, slice_get, Some}
-use Rattle.tq_shape.specs.declared.part.Entry.{Entry}
-use Rattle.tq_shape.specs.declared.part.Part.{Part}
-use Rattle.tq_shape.specs.Journal.{IsLegalFrom, entry}
-use Rattle.tq_cells.specs.declared.cell.Untaken.{Untaken}
+use Rattle.tq_shape.specs.{declared.part.Entry.Entry, declared.part.Part.Part, Journal.{IsLegalFrom, entry}}
+use Rattle.tq_cells.specs.declared.{cell.Untaken.Untaken, settings.Replies.Replies}
 use Rattle.tq_cells.specs.declared.cell.Untaken.TheVariants as untaken
-use Rattle.tq_cells.specs.declared.settings.Replies.{Replies}
 
 -- a receipt: the part that was asked, the number of the entry, the ask and the reply
 pub record Told (A R : Type 0) : Type 0 where

@@ -2,8 +2,7 @@
 
 ghost use Rattle.std.specs.Prelude.{◌≡◌, ◌+◌, ◌∷◌, ◌++◌, [], ◌<◌, List, drop, max, vec_len, IfOk, IfErr, OnErr};
 ghost use Rattle.std.specs.Sync.Mutex.{mutex_guard_value};
-ghost use Rattle.tq_shape.specs.declared.part.Entry.{Entry};
-ghost use Rattle.tq_shape.specs.Journal.{IsLegalFrom};
+ghost use Rattle.tq_shape.specs.{declared.part.Entry.Entry, Journal.IsLegalFrom};
 ghost use Rattle.tq_cells.specs.Passes.{IsToldBy, IsToldByOneOf, IsUntaken, last_behind, seen_by, receipts_of};
 
 use crate::CallFault;

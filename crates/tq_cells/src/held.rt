@@ -1,8 +1,7 @@
 //! A part beside its journal, and what is asked of it under the lock of a cell.
 
 ghost use Rattle.std.specs.Prelude.{◌≡◌, ◌+◌, ◌∷◌, ◌++◌, [], ◌↔◌, length, drop, max, vec_len, IfOk, IfErr, IsTrue, OnOk, OnErr, IsErrOf};
-ghost use Rattle.tq_shape.specs.Journal.{IsLegalFrom, entry};
-ghost use Rattle.tq_shape.specs.Agrees.{IsFull, standing_part};
+ghost use Rattle.tq_shape.specs.{Journal.{IsLegalFrom, entry}, Agrees.{IsFull, standing_part}};
 ghost use Rattle.tq_cells.specs.Passes.{IsUntaken, last_behind, told_reply};
 
 use crate::cell::{Twice, Untaken};

@@ -1,34 +1,20 @@
 -- What clap finds in the program's words where it finds no fault with them.
 use Rattle.std.proofs.Common.{◌≡◌, ◌∙◌, ◌⊎◌, inl, inr, ◌++◌, ◌||◌, ◌&&◌, ◌<◌, ◌≤◌, ◌^◌, ℕ, Bool, true, false, not, cond, List, [], ◌∷◌, Option, Some, None, is_some, refl, sym, ap, subst, slice_get, codes, arith}
-use Rattle.std.specs.Prelude.{Box, pos, Ok, Err, Result, option_map, option_and_then, unwrap_or}
-use Rattle.std.specs.Result.{IsErrAnd, IfErr}
-use Rattle.std.specs.List.{find}
-use Rattle.std.specs.Str.{bytes_eq}
-use Rattle.std.specs.Str.Parse.{ParsesUnsigned}
-use Rattle.clap.specs.Kinds.{HasKind, IsAmong, Kinds, check_kinds, or_else, value_kinds, values_kinds}
-use Rattle.clap.specs.Values.{kind_of, read_as}
-use Rattle.clap.specs.ValueTests.{accepts}
-use Rattle.clap.specs.Matches.{ReadsOne, one_text}
+use Rattle.std.specs.{Prelude.{Box, pos, Ok, Err, Result, option_map, option_and_then, unwrap_or}, List.find}
+use Rattle.std.specs.{Result.{IsErrAnd, IfErr}, Str.bytes_eq, Str.Parse.ParsesUnsigned, Box.box_value}
+use Rattle.clap.specs.{Kinds.{HasKind, IsAmong, Kinds, check_kinds, or_else, value_kinds, values_kinds}, Takes.is_given}
+use Rattle.clap.specs.{Values.{kind_of, read_as}, ValueTests.accepts, Matches.{ReadsOne, one_text}}
 use Rattle.clap.specs.Walk.{Row, Text, answers_to, nothing_held, row_text, rows_of, stop_after, without}
-use Rattle.clap.specs.Takes.{is_given}
 use Rattle.clap.specs.Simple.{App, Shape, argument_words, built, entered, filled, help_rule, label_of, names_of, rows_at, with_index}
-use Rattle.clap.specs.Faults.{entered_fault, fault_of, level_fault}
+use Rattle.clap.specs.{Faults.{entered_fault, fault_of, level_fault}, declared.error.Error.Error}
 use Rattle.clap.specs.Words.{one_of, subcommand_name_of, subcommand_of, subcommand_rows, subcommand_rows_of, without_minus}
-use Rattle.clap.specs.declared.builder.value_parser.ValueParser.TheVariants as vp
-use Rattle.clap.specs.declared.error.Error.{Error}
-use Rattle.clap.specs.declared.error.kind.ErrorKind.{ErrorKind}
-use Rattle.clap.specs.declared.error.kind.ErrorKind.TheVariants as kinds
-use Rattle.clap.specs.declared.builder.value_parser.Reading.{Reading}
-use Rattle.clap.specs.declared.builder.value_parser.Reading.TheVariants.{WithoutMinus}
-use Rattle.clap.specs.declared.builder.value_parser.ValueParser.{ValueParser}
-use Rattle.clap.specs.declared.parser.matches.Found.{Found}
-use Rattle.clap.specs.declared.parser.matches.ArgMatches.{ArgMatches}
+use Rattle.clap.specs.declared.{error.kind.ErrorKind.ErrorKind, builder.value_parser.Reading.Reading}
+use Rattle.clap.specs.declared.builder.value_parser.{Reading.TheVariants.WithoutMinus, ValueParser.ValueParser}
+use Rattle.clap.specs.declared.parser.matches.{Found.Found, ArgMatches.ArgMatches, SubCommand.SubCommand}
 use Rattle.clap.specs.declared.parser.matches.ArgMatches.TheViews.{out-ArgMatches, out-SubCommand}
-use Rattle.clap.specs.declared.parser.matches.SubCommand.{SubCommand}
-use Rattle.std.specs.Box.{box_value}
-use Rattle.clap.proofs.WalkLemmas.{one_text-rows}
-use Rattle.clap.proofs.ValueTestLemmas.{accepts-Accepts}
-use Rattle.clap.proofs.CallerReads.{signed_reads}
+use Rattle.clap.specs.declared.builder.value_parser.ValueParser.TheVariants as vp
+use Rattle.clap.specs.declared.error.kind.ErrorKind.TheVariants as kinds
+use Rattle.clap.proofs.{WalkLemmas.one_text-rows, ValueTestLemmas.accepts-Accepts, CallerReads.signed_reads}
 use Rattle.tq_cli.specs.declared.command.WordsFault.{WordsFault}
 use Rattle.tq_cli.specs.Command.{CanAsk, CanAskBare, CanAskOther, CanBeGiven, IsGivenOrZero, IsRefused, MayHaveNumber, fault_by, fault_for, HasNumber, IsGiven, audit_app, shell_app, threads_app, tq_app, upgrade_app}
 use Rattle.tq_cli.proofs.ParseLaws.{Keeps, both_none, level_kept}

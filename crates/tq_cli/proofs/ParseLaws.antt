@@ -1,15 +1,10 @@
 -- What each use of an argument keeps, a parse without a fault keeps.
 use Rattle.std.proofs.Common.{◌≡◌, ◌&&◌, subst, ℕ, zero, suc, Bool, true, false, cond, List, [], ◌∷◌, Option, Some, None, is_some, refl, length, fold, slice_get, drop}
-use Rattle.std.specs.Prelude.{encode_utf8}
-use Rattle.std.specs.List.{find}
-use Rattle.std.specs.Option.{option_map_or}
-use Rattle.std.specs.Str.{bytes_eq, chars}
-use Rattle.clap.specs.Lexer.{long_of, short_of}
-use Rattle.clap.specs.Kinds.{Kinds, or_else}
-use Rattle.clap.specs.declared.error.kind.ErrorKind.TheVariants as kind
+use Rattle.std.specs.{Prelude.encode_utf8, List.find, Option.option_map_or, Str.{bytes_eq, chars}}
+use Rattle.clap.specs.{Lexer.{long_of, short_of}, Kinds.{Kinds, or_else}, Simple.Shape}
 use Rattle.clap.specs.Walk.{Held, Names, Outcome, Row, Rule, Step, Text, Waiting, Walk, after_flag, after_step, arg_by_id, arg_by_index, arg_by_long, arg_by_short, attached_value, bundle, bundle_met, bundle_step, done, finished, flag_met, idle, is_pending, long_met, long_or_other, next, option, option_met, option_word, plain, plain_word, positional, pushed, reacted, refused, settled, settled_rows, short_met, short_or_plain, subcommand, subcommand_met, subcommand_or_other, takes_several, takes_values, to_positional, trailing, used, used_by_id, value, waits, walk, walk_from, walked, walked_from, with_default, word_met}
-use Rattle.clap.specs.Simple.{Shape}
 use Rattle.clap.specs.Faults.{bundle_fault, bundle_step_fault, default_fault, defaults_fault, flag_word_fault, flags_fault, level_fault, long_fault, option_fault, other_fault, positional_fault, react_fault, settle_fault, short_fault, step_fault, stray_fault, bundle_fault, check_fault, turn_fault, use_fault, walk_fault, word_fault}
+use Rattle.clap.specs.declared.error.kind.ErrorKind.TheVariants as kind
 
 -- of two faults neither came
 pub both_none : (first second : Kinds) → or_else first second ≡ [] → (first ≡ []) × (second ≡ [])

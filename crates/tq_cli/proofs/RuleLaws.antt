@@ -1,23 +1,15 @@
 -- What the uses of arguments leave in the rows, and the subcommands that words name.
 use Rattle.std.proofs.Common.{◌≡◌, ◌∙◌, ◌⊎◌, inl, inr, ◌++◌, ℕ, Bool, true, false, cond, List, [], ◌∷◌, Option, Some, None, is_some, length, refl, sym, ap, subst, codes, get_or}
-use Rattle.std.specs.Prelude.{unwrap_or, nat_lt, option_map}
-use Rattle.std.specs.List.{find}
-use Rattle.std.specs.Option.{option_map_or}
-use Rattle.std.specs.Str.{bytes_eq}
-use Rattle.clap.specs.Facts.{explicit_source}
-use Rattle.clap.specs.Kinds.{Kinds, range_kinds, values_kinds}
-use Rattle.clap.specs.Values.{reading_of}
+use Rattle.std.specs.{Prelude.{unwrap_or, nat_lt, option_map}, List.find, Option.option_map_or, Str.bytes_eq}
+use Rattle.clap.specs.{Facts.explicit_source, Kinds.{Kinds, range_kinds, values_kinds}, Values.reading_of}
 use Rattle.clap.specs.Walk.{Row, Rule, Text, at_row, has_row, more_values, nothing_held, used, with_values, without}
-use Rattle.clap.specs.Takes.{is_given}
-use Rattle.clap.specs.Simple.{Shape, filled, help_rule, rows_at, with_index}
+use Rattle.clap.specs.{Takes.is_given, Simple.{Shape, filled, help_rule, rows_at, with_index}}
 use Rattle.clap.specs.Faults.{level_fault, repeat_fault, set_fault, use_fault}
-use Rattle.clap.specs.declared.builder.value_parser.Reading.{Reading}
-use Rattle.clap.specs.declared.builder.value_parser.ValueParser.{ValueParser}
-use Rattle.clap.specs.declared.builder.value_parser.ValueParser.TheVariants as vp
-use Rattle.clap.specs.declared.error.kind.ErrorKind.{ErrorKind}
-use Rattle.clap.specs.declared.error.kind.ErrorKind.TheVariants as kinds
-use Rattle.clap.specs.declared.parser.matches.ValueSource.{ValueSource}
+use Rattle.clap.specs.declared.builder.value_parser.{Reading.Reading, ValueParser.ValueParser}
+use Rattle.clap.specs.declared.{error.kind.ErrorKind.ErrorKind, parser.matches.ValueSource.ValueSource}
 use Rattle.clap.specs.declared.parser.matches.ValueSource.TheVariants.{CommandLine}
+use Rattle.clap.specs.declared.builder.value_parser.ValueParser.TheVariants as vp
+use Rattle.clap.specs.declared.error.kind.ErrorKind.TheVariants as kinds
 use Rattle.tq_cli.specs.Command.{IsFound, set_rule}
 use Rattle.tq_cli.proofs.ParseLaws.{Keeps, both_none}
 

@@ -1,17 +1,11 @@
 -- What clap finds in the words of `tqd` where it finds no fault with them.
 use Rattle.std.proofs.Common.{◌≡◌, ◌∙◌, inl, inr, ◌++◌, ◌||◌, ℕ, Bool, true, false, not, cond, List, [], ◌∷◌, Option, Some, None, is_some, map, refl, sym, ap, subst, slice_get, codes, arith}
-use Rattle.std.specs.Prelude.{pos, option_map, option_and_then}
-use Rattle.std.specs.Str.{bytes_eq}
-use Rattle.clap.specs.Kinds.{check_kinds, value_kinds, values_kinds}
-use Rattle.clap.specs.Values.{read_as}
-use Rattle.clap.specs.ValueTests.{accepts}
-use Rattle.clap.specs.Walk.{Row, Rule, Text, answers_to, many_of, nothing_held, stop_after}
-use Rattle.clap.specs.Takes.{is_given}
+use Rattle.std.specs.{Prelude.{pos, option_map, option_and_then}, Str.bytes_eq}
+use Rattle.clap.specs.{Kinds.{check_kinds, value_kinds, values_kinds}, Values.read_as, ValueTests.accepts}
+use Rattle.clap.specs.{Walk.{Row, Rule, Text, answers_to, many_of, nothing_held, stop_after}, Takes.is_given}
 use Rattle.clap.specs.Simple.{Shape, argument_words, built, built_leaf, entered, filled, help_rule, inherited, label_of, marked_built, names_of, rows_at, with_index, with_leaf_noted}
-use Rattle.clap.specs.Faults.{entered_fault, fault_of, level_fault}
-use Rattle.clap.specs.Words.{subcommand_of, without_minus}
-use Rattle.clap.specs.declared.builder.value_parser.Reading.{Reading}
-use Rattle.clap.specs.declared.builder.value_parser.Reading.TheVariants.{AsWritten, WithoutMinus}
+use Rattle.clap.specs.{Faults.{entered_fault, fault_of, level_fault}, Words.{subcommand_of, without_minus}}
+use Rattle.clap.specs.declared.builder.value_parser.{Reading.Reading, Reading.TheVariants.{AsWritten, WithoutMinus}}
 use Rattle.clap.specs.declared.builder.value_parser.ValueParser.{ValueParser}
 use Rattle.clap.specs.declared.builder.value_parser.ValueParser.TheVariants as vp
 use Rattle.clap.proofs.ValueTestLemmas.{accepts-Accepts}

@@ -1,19 +1,13 @@
 -- The words of the command line, as clap reads them.
 use Rattle.std.specs.Prelude.{◌≡◌, ◌⊎◌, ◌≤◌, ℕ, Bool, true, false, List, [], map, String, Option, Some, None, pos, codes}
-use Rattle.std.specs.Str.Parse.{digits_value, without_leading_plus}
+use Rattle.std.specs.{Str.Parse.{digits_value, without_leading_plus}, String.string_bytes}
 use Rattle.clap.specs.Words.{App, IsAmong, IsSignedIn, Row, Rule, Text, fault_of, kind_of, new_app, new_rule, one_of, subcommand_of, with_rule, without_minus, with_subcommand}
-use Rattle.clap.specs.Simple.{on_top}
-use Rattle.clap.specs.declared.builder.action.ArgAction.TheVariants.{Set}
-use Rattle.clap.specs.declared.builder.value_parser.ValueParser.{ValueParser}
-use Rattle.clap.specs.declared.builder.value_parser.ValueParser.TheVariants as vp
-use Rattle.clap.specs.declared.error.Error.{Error}
-use Rattle.clap.specs.declared.error.kind.ErrorKind.{ErrorKind}
+use Rattle.clap.specs.{Simple.on_top, declared.builder.action.ArgAction.TheVariants.Set, declared.error.Error.Error}
+use Rattle.clap.specs.declared.{builder.value_parser.ValueParser.ValueParser, error.kind.ErrorKind.ErrorKind}
 use Rattle.clap.specs.declared.error.kind.ErrorKind.TheVariants.{OutOfMemory}
-use Rattle.std.specs.String.{string_bytes}
-use Rattle.tq_cli.specs.declared.command.Words.{Words}
-use Rattle.tq_cli.specs.declared.command.Words.TheVariants.{Shell, Threads, Audit, Upgrade}
-use Rattle.tq_cli.specs.declared.command.WordsFault.{WordsFault}
-use Rattle.tq_cli.specs.declared.command.WordsFault.TheVariants.{Memory, Refused}
+use Rattle.clap.specs.declared.builder.value_parser.ValueParser.TheVariants as vp
+use Rattle.tq_cli.specs.declared.command.{Words.Words, Words.TheVariants.{Shell, Threads, Audit, Upgrade}}
+use Rattle.tq_cli.specs.declared.command.{WordsFault.WordsFault, WordsFault.TheVariants.{Memory, Refused}}
 
 -- an argument that is given a value, or as many as it has names, each of which passes its parser
 abbrev pub set_rule : Text → Option Text → ℕ → Option ValueParser → Bool → Rule

@@ -5,9 +5,7 @@ use Rattle.clap.specs.Words.{App, IsSignedIn, Row, Rule, Text, fault_of, many_of
 use Rattle.clap.specs.Walk.{first_of}
 use Rattle.clap.specs.declared.builder.value_parser.ValueParser.TheVariants as vp
 use Rattle.tq_cli.specs.Command.{HasNumber, IsFound, IsGiven, levels_rule, set_rule, top_app}
-use Rattle.tq_cli.specs.declared.tqd_words.GivenLimits.{GivenLimits}
-use Rattle.tq_cli.specs.declared.tqd_words.PartOptions.{PartOptions}
-use Rattle.tq_cli.specs.declared.tqd_words.TqdWords.{TqdWords}
+use Rattle.tq_cli.specs.declared.tqd_words.{GivenLimits.GivenLimits, PartOptions.PartOptions, TqdWords.TqdWords}
 use Rattle.tq_cli.specs.declared.tqd_words.TqdWords.TheVariants.{Rehearsal, Server, Desk, View}
 
 -- a file, which is wanted

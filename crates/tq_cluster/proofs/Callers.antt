@@ -2,34 +2,24 @@
 -- more of them, and all of them turned round. What callers were told where memory may have been refused: the first of
 -- what they were to ask.
 use Rattle.std.proofs.Common.{◌≡◌, ◌⊎◌, ◌<◌, ◌≤◌, ◌+◌, ℕ, zero, suc, List, [], ◌∷◌, ◌++◌, get_or, length, take, Result, Ok, Err, inl, inr, refl, sym, subst, append-nil, arith, ◌-◌, ◌∙◌, ap, append_assoc, length-append, drop, Bool, true, false}
-use Rattle.std.specs.Prelude.{IfOk, IfErr, Option, Some, None, MatchOption, reverse, IfSome, is_err}
+use Rattle.std.proofs.lemmas.{List.{take_all, reverse-append, length-reverse}, Bool.false≢true}
+use Rattle.std.specs.{Prelude.{IfOk, IfErr, Option, Some, None, MatchOption, reverse, IfSome, is_err}, Result.result_ok}
 use Rattle.std.specs.List.{AllByRecursion}
-use Rattle.std.proofs.lemmas.List.{take_all, reverse-append, length-reverse}
-use Rattle.tq_shape.specs.Limits.{LimitsView}
-use Rattle.tq_shape.specs.declared.part.Part.{Part}
+use Rattle.tq_shape.specs.{Limits.LimitsView, declared.part.Part.Part, declared.fault.AskFault.AskFault}
 use Rattle.tq_shape.specs.declared.part.Part.TheVariants as parts
-use Rattle.tq_shape.specs.declared.fault.AskFault.{AskFault}
 use Rattle.tq_shape.specs.declared.fault.AskFault.TheVariants as faults
-use Rattle.tq_asks.specs.declared.ask.NodeAsk.{NodeAsk}
-use Rattle.tq_asks.specs.declared.ask.NodeReply.{NodeReply}
-use Rattle.tq_desk.specs.declared.ask.DeskAsk.{DeskAsk}
-use Rattle.tq_desk.specs.declared.ask.DeskReply.{DeskReply}
-use Rattle.tq_live.specs.declared.view.ViewAsk.{ViewAsk}
-use Rattle.tq_live.specs.declared.view.ViewReply.{ViewReply}
-use Rattle.tq_txn.specs.declared.asker.Exchange.{Exchange}
-use Rattle.tq_txn.specs.declared.asker.Exchange.TheVariants as exchanges
+use Rattle.tq_asks.specs.declared.ask.{NodeAsk.NodeAsk, NodeReply.NodeReply}
+use Rattle.tq_desk.specs.declared.ask.{DeskAsk.DeskAsk, DeskReply.DeskReply}
+use Rattle.tq_live.specs.declared.view.{ViewAsk.ViewAsk, ViewReply.ViewReply}
+use Rattle.tq_txn.specs.{declared.asker.Exchange.Exchange, Script.script_asked}
 use Rattle.tq_txn.specs.Dialogue.{Told, unless_memory, Makes, Dialogue, Ends, AsksNode, AsksDesk, AsksView, Begins, Follows}
-use Rattle.tq_cluster.specs.declared.asked.Numbered.{Numbered}
+use Rattle.tq_txn.specs.declared.asker.Exchange.TheVariants as exchanges
+use Rattle.tq_cluster.specs.declared.{asked.Numbered.Numbered, workers.Message.Message}
 use Rattle.tq_cluster.specs.Told.{AreOfParts, IsOfPart, IsToldByServer, IsToldByDesk, IsToldByView, exchanges_of, CallerView}
-use Rattle.tq_syntax.specs.declared.script.Line.{Line}
-use Rattle.tq_refresh.specs.declared.job.Job.{Job}
-use Rattle.tq_refresh.specs.Plan.{refresh_asked, Grows, IsBegun}
-use Rattle.tq_cluster.specs.declared.workers.Message.{Message}
-use Rattle.tq_cluster.specs.declared.workers.Message.TheVariants as messages
 use Rattle.tq_cluster.specs.Clients.{RunsScript, JobsMake, Refreshes, AllRan, if_made, AllBegan, BeginsJobs, BeginsScript, JobsBegin, jobs_in, Works, AllWork, WorkBackwards, RunBackwards, BeganBackwards, IsClient}
-use Rattle.std.specs.Result.{result_ok}
-use Rattle.std.proofs.lemmas.Bool.{false≢true}
-use Rattle.tq_txn.specs.Script.{script_asked}
+use Rattle.tq_syntax.specs.declared.script.Line.{Line}
+use Rattle.tq_refresh.specs.{declared.job.Job.Job, Plan.{refresh_asked, Grows, IsBegun}}
+use Rattle.tq_cluster.specs.declared.workers.Message.TheVariants as messages
 
 -- all of these, and one more
 pub all_and : {A : Type 0} (P : A → Type 0) (xs : List A) (x : A) → AllByRecursion P xs → P x → AllByRecursion P (xs ++ x ∷ [])

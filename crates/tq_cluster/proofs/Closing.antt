@@ -1,35 +1,25 @@
 -- The names of servers, upwards from the first. What comes of the journals of a cluster, said of the cluster. The
 -- journals that come out of cells are those of a system.
 use Rattle.std.proofs.Common.{◌≡◌, ◌<◌, ◌≤◌, ◌+◌, ◌-◌, ℕ, zero, suc, List, [], ◌∷◌, ◌++◌, length, get_or, ap, sym, subst, ◌∙◌, arith, length-append, Option, Some, None, refl, ◌^◌, map}
-use Rattle.tq_shape.specs.declared.part.Part.{Part}
+use Rattle.std.proofs.lemmas.{List.Elements.All-push, List.{length-map, map-append}}
+use Rattle.tq_shape.specs.{declared.part.Part.Part, Journal.IsLegalFrom, Limits.LimitsView}
 use Rattle.tq_shape.specs.declared.part.Part.TheVariants as parts
 use Rattle.tq_cluster.specs.Cluster.{AreServers, ClusterView, AreOfCluster, IsClosedBy, AreTablesOfPrefixes}
-use Rattle.std.specs.Option.{MatchOption, IfNone}
+use Rattle.std.specs.{Option.{MatchOption, IfNone}, Prelude.reverse, List.All}
 use Rattle.tq_txn.specs.declared.asker.Exchange.{Exchange}
-use Rattle.tq_tables.specs.Journals.{JournalsView, IsOfTree, ViewEntry, AreJournals}
+use Rattle.tq_tables.specs.{Journals.{JournalsView, IsOfTree, ViewEntry, AreJournals}, Tables.tables_of}
 use Rattle.tq_tables.specs.Parts.{AreLegal, AreLegalServers, bounds_of}
-use Rattle.tq_tables.specs.Tables.{tables_of}
 use Rattle.tq_mirror.specs.Prefixes.{AllBegin}
-use Rattle.tq_merge.specs.declared.fault.CloseFault.{CloseFault}
+use Rattle.tq_merge.specs.{declared.fault.CloseFault.CloseFault, Told.{IsCloseFault, AreKept}, Order.IsStuck}
 use Rattle.tq_merge.specs.declared.fault.CloseFault.TheVariants as faults
-use Rattle.tq_merge.specs.Told.{IsCloseFault, AreKept}
-use Rattle.tq_merge.specs.Order.{IsStuck}
-use Rattle.std.specs.Prelude.{reverse}
-use Rattle.std.specs.List.{All}
-use Rattle.std.proofs.lemmas.List.Elements.{All-push}
-use Rattle.std.proofs.lemmas.List.{length-map, map-append}
-use Rattle.tq_shape.specs.Journal.{IsLegalFrom}
 use Rattle.tq_shape.proofs.Joined.{legal-reverse}
 use Rattle.tq_asks.specs.declared.ask.NodeAsk.{NodeAsk}
-use Rattle.tq_node.specs.Records.{NodeState, node_reply, node_after}
-use Rattle.tq_node.specs.Node as node
-use Rattle.tq_node.specs.Node.{NodeView, server_after}
+use Rattle.tq_node.specs.{Records.{NodeState, node_reply, node_after}, Node.{NodeView, server_after}}
 use Rattle.tq_node.specs.NodeJournal.{NodeEntry, IsLegalNode, nothing_stored}
-use Rattle.tq_desk.specs.declared.ask.DeskAsk.{DeskAsk}
-use Rattle.tq_desk.specs.DeskStep.{DeskView, desk_reply, desk_after}
-use Rattle.tq_desk.specs.DeskStep as desk
+use Rattle.tq_node.specs.Node as node
+use Rattle.tq_desk.specs.{declared.ask.DeskAsk.DeskAsk, DeskStep.{DeskView, desk_reply, desk_after}}
 use Rattle.tq_desk.specs.DeskJournal.{DeskBounds, DeskEntry, IsLegalDesk, step_reply, step_after, opened_desk}
-use Rattle.tq_shape.specs.Limits.{LimitsView}
+use Rattle.tq_desk.specs.DeskStep as desk
 
 pub one_more : (first : ℕ) (names : List Part) → AreServers first names → AreServers first (names ++ parts.Server (first + length names) ∷ [])
 one_more first [] named = (ap parts.Server (omega arith), tt)

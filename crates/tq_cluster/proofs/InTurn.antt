@@ -1,13 +1,11 @@
 -- Parts that were pulled one after another.
 use Rattle.std.proofs.Common.{◌≡◌, ◌⊎◌, ◌≤◌, ◌<◌, ◌+◌, ◌-◌, ℕ, zero, suc, List, [], ◌∷◌, ◌++◌, max, inl, inr, refl, sym, ap, subst, ◌∙◌, arith}
-use Rattle.std.proofs.Math.Path.{transport}
-use Rattle.std.proofs.lemmas.List.{set-get_or}
+use Rattle.std.proofs.{Math.Path.transport, lemmas.List.set-get_or}
 use Rattle.std.specs.Prelude.{Result, Ok, Err, IfErr, OnOk, OnErr, ⊤}
 use Rattle.tq_shape.specs.declared.part.Part.{Part}
 use Rattle.tq_shape.specs.declared.part.Part.TheVariants as parts
 use Rattle.tq_tables.specs.Journals.{JournalsView}
-use Rattle.tq_mirror.specs.declared.entries.Entries.{Entries}
-use Rattle.tq_mirror.specs.declared.fault.PullFault.{PullFault}
+use Rattle.tq_mirror.specs.declared.{entries.Entries.Entries, fault.PullFault.PullFault}
 use Rattle.tq_mirror.specs.Prefixes.{IsPullFault, journals_with, prefix_length}
 use Rattle.tq_cluster.specs.Told.{CallerView, having_seen, seen_of}
 use Rattle.tq_cluster.specs.Rounds.{ArePulled, IsNotPulled, IsPulled, seen_then, servers_from}

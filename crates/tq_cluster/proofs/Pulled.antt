@@ -1,25 +1,19 @@
 -- Prefixes that pulls continue. Jobs that are put one after another.
 use Rattle.std.proofs.Common.{◌≡◌, ◌≢◌, ◌⊎◌, ◌≤◌, ◌+◌, ◌-◌, ◌^◌, ℕ, zero, suc, List, [], ◌∷◌, ◌++◌, length, set, get_or, inl, inr, refl, sym, ap, subst, ◌∙◌, arith, append_assoc, append-nil, ◌<◌, ◌==◌, Bool, false, cond, drop, map}
-use Rattle.std.specs.Prelude.{Result, Ok, Err, OnOk, OnErr}
-use Rattle.std.proofs.lemmas.List.{get_or-set_other, drop_all, drop_more, map-append}
-use Rattle.std.proofs.lemmas.Bool.{cases_eq}
-use Rattle.tq_shape.specs.Tree.{IsServer}
-use Rattle.tq_shape.specs.declared.part.Part.{Part}
+use Rattle.std.proofs.lemmas.{List.{get_or-set_other, drop_all, drop_more, map-append}, Bool.cases_eq}
+use Rattle.std.proofs.lemmas.Bool.Decides.{nat_tests}
+use Rattle.std.specs.{Prelude.{Result, Ok, Err, OnOk, OnErr}, List.flat_map}
+use Rattle.tq_shape.specs.{Tree.IsServer, declared.part.Part.Part}
 use Rattle.tq_shape.specs.declared.part.Part.TheVariants as parts
 use Rattle.tq_tables.specs.Journals.{JournalsView}
-use Rattle.tq_mirror.specs.declared.entries.Entries.{Entries}
-use Rattle.tq_mirror.specs.declared.entries.Entries.TheVariants as entries
-use Rattle.tq_mirror.specs.declared.fault.PullFault.{PullFault}
+use Rattle.tq_mirror.specs.declared.{entries.Entries.Entries, fault.PullFault.PullFault}
 use Rattle.tq_mirror.specs.Prefixes.{IsPartOf, prefix_length, server_prefix, journals_with}
-use Rattle.tq_cluster.specs.Told.{CallerView, seen_of, having_seen}
+use Rattle.tq_mirror.specs.declared.entries.Entries.TheVariants as entries
+use Rattle.tq_cluster.specs.{Told.{CallerView, seen_of, having_seen}, declared.workers.Message.Message}
 use Rattle.tq_cluster.specs.Rounds.{EachContinues, Continues, HasSeenAll, HasSeenServers, HasPulled, planned_on, with_jobs, with_plan}
-use Rattle.std.specs.List.{flat_map}
-use Rattle.std.proofs.lemmas.Bool.Decides.{nat_tests}
-use Rattle.tq_refresh.specs.declared.file_jobs.FileJobs.{FileJobs}
-use Rattle.tq_refresh.specs.declared.job.Job.{Job}
-use Rattle.tq_cluster.specs.declared.workers.Message.{Message}
-use Rattle.tq_cluster.specs.declared.workers.Message.TheVariants as messages
 use Rattle.tq_cluster.specs.declared.rounds.Round.{Round}
+use Rattle.tq_refresh.specs.declared.{file_jobs.FileJobs.FileJobs, job.Job.Job}
+use Rattle.tq_cluster.specs.declared.workers.Message.TheVariants as messages
 use Rattle.tq_cluster.specs.declared.rounds.Round.TheVariants as ends
 
 each-same : {E : Type 0} (xs : List (List E)) → EachContinues xs xs

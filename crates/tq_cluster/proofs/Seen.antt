@@ -5,7 +5,7 @@ use denote.Param.Send.{IsSend, IsSync, recorded_send, struct_send, sendable}
 use denote.Struct.Declared.{shape}
 use denote.Struct.Tuple.{TupleAt, type_at, field_at}
 use Rattle.std.proofs.Common.{ℕ, List, [], ◌∷◌, ◌≡◌, ◌≤◌, ◌<◌, ◌+◌, ◌-◌, ◌^◌, zero, suc, length, map, max, set, get_or, refl, sym, ap, subst, ◌∙◌, arith}
-use Rattle.std.proofs.Crossing.{crosses}
+use Rattle.std.proofs.{Crossing.crosses, lemmas.List.{length-map, map-set, get_or-map, get_or-set_same, set-get_or}}
 use Rattle.std.proofs.MapsCrossing as maps
 use Rattle.std.proofs.MapsCrossingOver as others
 use Rattle.tq_live.proofs.Ways.{tree_send}
@@ -31,21 +31,16 @@ use Rattle.tq_cluster.specs.contracts.ends.Taker as Taker
 use Rattle.tq_cluster.proofs.ends.Taker.TheSendSync as takers
 use Rattle.tq_cluster.specs.contracts.workers.Message as Message
 use Rattle.tq_cluster.proofs.workers.Message.TheSendSync as messages
-use Rattle.std.proofs.lemmas.List.{length-map, map-set, get_or-map, get_or-set_same, set-get_or}
 use Rattle.std.specs.Prelude.{Result, Ok, Err, IfErr, OnOk, OnErr}
 use Rattle.tq_cells.specs.Passes.{Seen}
-use Rattle.tq_shape.specs.Tree.{IsServer}
-use Rattle.tq_shape.specs.declared.part.Part.{Part}
+use Rattle.tq_shape.specs.{Tree.IsServer, declared.part.Part.Part}
 use Rattle.tq_shape.specs.declared.part.Part.TheVariants as parts
-use Rattle.tq_asks.specs.declared.ask.NodeAsk.{NodeAsk}
-use Rattle.tq_asks.specs.declared.ask.NodeReply.{NodeReply}
+use Rattle.tq_asks.specs.declared.ask.{NodeAsk.NodeAsk, NodeReply.NodeReply}
 use Rattle.tq_txn.specs.declared.asker.Exchange.{Exchange}
 use Rattle.tq_tables.specs.Journals.{JournalsView}
-use Rattle.tq_mirror.specs.declared.entries.Entries.{Entries}
-use Rattle.tq_mirror.specs.declared.fault.PullFault.{PullFault}
+use Rattle.tq_mirror.specs.declared.{entries.Entries.Entries, fault.PullFault.PullFault}
 use Rattle.tq_mirror.specs.Prefixes.{IsPartOf, IsPullFault, journals_with, prefix_length}
-use Rattle.tq_cluster.specs.Told.{CallerView, SeesOn, seen_of, having_seen}
-use Rattle.tq_cluster.specs.Rounds.{IsPull, last_come, seen_then}
+use Rattle.tq_cluster.specs.{Told.{CallerView, SeesOn, seen_of, having_seen}, Rounds.{IsPull, last_come, seen_then}}
 
 -- ---- asks and replies
 

@@ -2,15 +2,11 @@
 -- a run as their threads are joined: the one that was started last comes first.
 use Rattle.std.specs.Prelude.{◌≡◌, ℕ, List, [], ◌∷◌, ◌++◌, Option, Some, None, IfSome, length, Bool, false, MatchOption}
 use Rattle.std.specs.List.{AllByRecursion}
-use Rattle.tq_txn.specs.Dialogue.{Makes, Begins}
-use Rattle.tq_txn.specs.declared.asker.Exchange.{Exchange}
+use Rattle.tq_txn.specs.{Dialogue.{Makes, Begins}, declared.asker.Exchange.Exchange, Script.script_asked}
 use Rattle.tq_syntax.specs.declared.script.Line.{Line}
-use Rattle.tq_txn.specs.Script.{script_asked}
 use Rattle.tq_shape.specs.Limits.{LimitsView}
-use Rattle.tq_refresh.specs.declared.job.Job.{Job}
-use Rattle.tq_refresh.specs.Plan.{refresh_asked}
-use Rattle.tq_cluster.specs.Told.{CallerView}
-use Rattle.tq_cluster.specs.declared.workers.Message.{Message}
+use Rattle.tq_refresh.specs.{declared.job.Job.Job, Plan.refresh_asked}
+use Rattle.tq_cluster.specs.{Told.CallerView, declared.workers.Message.Message}
 use Rattle.tq_cluster.specs.declared.workers.Message.TheVariants as messages
 
 -- the caller was told what the lines of the script ask, each as the answers before demand

@@ -1,16 +1,12 @@
 -- What is seen of a running cluster. What comes of a cluster that is closed.
 use Rattle.std.specs.Prelude.{◌≡◌, ℕ, ◌+◌, ◌^◌, List, [], ◌∷◌, length, ⊤}
-use Rattle.tq_shape.specs.Limits.{LimitsView}
-use Rattle.tq_shape.specs.declared.part.Part.{Part}
+use Rattle.tq_shape.specs.{Limits.LimitsView, declared.part.Part.Part}
 use Rattle.tq_shape.specs.declared.part.Part.TheVariants as parts
 use Rattle.tq_txn.specs.declared.asker.Exchange.{Exchange}
-use Rattle.tq_tables.specs.Journals.{JournalsView}
-use Rattle.tq_tables.specs.Parts.{AreLegal}
-use Rattle.tq_tables.specs.Tables.{TablesView, tables_of}
-use Rattle.tq_merge.specs.Order.{IsStuck}
-use Rattle.tq_merge.specs.declared.fault.CloseFault.{CloseFault}
-use Rattle.tq_merge.specs.declared.fault.CloseFault.TheVariants as faults
+use Rattle.tq_tables.specs.{Journals.JournalsView, Parts.AreLegal, Tables.{TablesView, tables_of}}
+use Rattle.tq_merge.specs.{Order.IsStuck, declared.fault.CloseFault.CloseFault}
 use Rattle.tq_merge.specs.Told.{entry_name, found_at, AreKept, IsBad}
+use Rattle.tq_merge.specs.declared.fault.CloseFault.TheVariants as faults
 use Rattle.tq_mirror.specs.Prefixes.{AllBegin}
 
 -- how many levels the tree of servers has, and the limits

@@ -1,22 +1,17 @@
 -- What pulls do to the prefixes on a board. What a round puts into the queue of jobs.
 use Rattle.std.specs.Prelude.{◌≡◌, ◌≤◌, ◌<◌, ◌-◌, ◌^◌, ◌⊎◌, ℕ, zero, suc, max, List, [], ◌∷◌, ◌++◌, Result, Ok, Err, OnOk, OnErr, IfErr, ⊤, ◌==◌, cond, map}
-use Rattle.tq_shape.specs.declared.part.Part.{Part}
+use Rattle.tq_shape.specs.{declared.part.Part.Part, Limits.LimitsView}
 use Rattle.tq_shape.specs.declared.part.Part.TheVariants as parts
 use Rattle.tq_desk.specs.DeskJournal.{DeskEntry}
-use Rattle.tq_tables.specs.Journals.{JournalsView, ViewEntry}
+use Rattle.tq_tables.specs.{Journals.{JournalsView, ViewEntry}, Tables.tables_of}
 use Rattle.tq_cells.specs.Passes.{last_behind}
-use Rattle.tq_mirror.specs.declared.entries.Entries.{Entries}
-use Rattle.tq_mirror.specs.declared.fault.PullFault.{PullFault}
-use Rattle.tq_mirror.specs.declared.fault.PullFault.TheVariants as faults
+use Rattle.tq_mirror.specs.declared.{entries.Entries.Entries, fault.PullFault.PullFault}
 use Rattle.tq_mirror.specs.Prefixes.{IsForeign, IsPartOf, IsPullFault, journals_with, prefix_length, nothing_pulled, ComesBefore}
-use Rattle.tq_cluster.specs.Told.{CallerView, having_seen, seen_of, nothing_seen}
-use Rattle.tq_shape.specs.Limits.{LimitsView}
-use Rattle.tq_refresh.specs.declared.job.Job.{Job}
-use Rattle.tq_refresh.specs.Plan.{plan_of}
-use Rattle.tq_tables.specs.Tables.{tables_of}
-use Rattle.tq_cluster.specs.declared.workers.Message.{Message}
-use Rattle.tq_cluster.specs.declared.workers.Message.TheVariants as messages
+use Rattle.tq_mirror.specs.declared.fault.PullFault.TheVariants as faults
+use Rattle.tq_cluster.specs.{Told.{CallerView, having_seen, seen_of, nothing_seen}, declared.workers.Message.Message}
 use Rattle.tq_cluster.specs.declared.rounds.Round.{Round}
+use Rattle.tq_refresh.specs.{declared.job.Job.Job, Plan.plan_of}
+use Rattle.tq_cluster.specs.declared.workers.Message.TheVariants as messages
 use Rattle.tq_cluster.specs.declared.rounds.Round.TheVariants as ends
 
 -- each list is the one at its place before with more behind it

@@ -1,27 +1,19 @@
 -- Which part of a system a part is. What a caller of a cluster was told.
 use Rattle.std.specs.Prelude.{◌≡◌, ℕ, ◌≤◌, ◌⊎◌, ◌-◌, ◌^◌, List, [], ◌∷◌, Result, Ok, Err, IfOk, IfErr, OnErr, get_or, max, set, replicate}
-use Rattle.tq_shape.specs.Limits.{LimitsView}
-use Rattle.tq_node.specs.Node.{NodeView, server_after}
-use Rattle.tq_desk.specs.DeskStep.{DeskView, desk_reply, desk_after}
-use Rattle.tq_live.specs.Live.{Live}
 use Rattle.std.specs.List.{AllByRecursion}
-use Rattle.tq_shape.specs.declared.part.Part.{Part}
+use Rattle.tq_shape.specs.{Limits.LimitsView, declared.part.Part.Part, declared.fault.AskFault.AskFault}
+use Rattle.tq_node.specs.{Node.{NodeView, server_after}, Records.node_reply}
+use Rattle.tq_desk.specs.{DeskStep.{DeskView, desk_reply, desk_after}, declared.ask.DeskAsk.DeskAsk}
+use Rattle.tq_desk.specs.declared.ask.DeskReply.{DeskReply}
+use Rattle.tq_live.specs.{Live.Live, View.{view_state, view_reply, view_after}, declared.view.ViewAsk.ViewAsk}
+use Rattle.tq_live.specs.declared.view.ViewReply.{ViewReply}
 use Rattle.tq_shape.specs.declared.part.Part.TheVariants as parts
 use Rattle.tq_cells.specs.Passes.{IsToldByOneOf}
-use Rattle.tq_asks.specs.declared.ask.NodeAsk.{NodeAsk}
-use Rattle.tq_asks.specs.declared.ask.NodeReply.{NodeReply}
-use Rattle.tq_node.specs.Records.{node_reply}
+use Rattle.tq_asks.specs.declared.ask.{NodeAsk.NodeAsk, NodeReply.NodeReply}
 use Rattle.tq_node.specs.Node as node
-use Rattle.tq_desk.specs.declared.ask.DeskAsk.{DeskAsk}
-use Rattle.tq_desk.specs.declared.ask.DeskReply.{DeskReply}
 use Rattle.tq_desk.specs.DeskStep as desk
-use Rattle.tq_live.specs.View.{view_state, view_reply, view_after}
-use Rattle.tq_live.specs.declared.view.ViewAsk.{ViewAsk}
-use Rattle.tq_live.specs.declared.view.ViewReply.{ViewReply}
-use Rattle.tq_txn.specs.declared.asker.Exchange.{Exchange}
+use Rattle.tq_txn.specs.{declared.asker.Exchange.Exchange, Dialogue.{Told, unless_memory}}
 use Rattle.tq_txn.specs.declared.asker.Exchange.TheVariants as exchanges
-use Rattle.tq_txn.specs.Dialogue.{Told, unless_memory}
-use Rattle.tq_shape.specs.declared.fault.AskFault.{AskFault}
 use Rattle.tq_shape.specs.declared.fault.AskFault.TheVariants as faults
 use Rattle.tq_cluster.specs.declared.asked.Numbered.{Numbered}
 

@@ -1,10 +1,8 @@
 //! Clients and workers in threads of their own.
 
 ghost use Rattle.std.specs.Prelude.{◌≡◌, ◌<◌, ◌≤◌, ◌+◌, ◌-◌, ℕ, [], ◌∷◌, ◌++◌, List, length, vec_len, vec_capacity, true, false};
-ghost use Rattle.crossbeam_channel.specs.Claims.{view};
-ghost use Rattle.crossbeam_channel.specs.Ends.{sends_on};
-ghost use Rattle.tq_cluster.specs.Rule.{hand, IsPrefixTaken};
-ghost use Rattle.tq_cluster.specs.declared.workers.Message.{Message};
+ghost use Rattle.crossbeam_channel.specs.{Claims.view, Ends.sends_on};
+ghost use Rattle.tq_cluster.specs.{Rule.{hand, IsPrefixTaken}, declared.workers.Message.Message};
 ghost use Rattle.tq_cluster.specs.Told.{AreToldByParts, CallerView};
 ghost use Rattle.tq_cluster.specs.Clients.{AllBegan, AllRan, if_made, BeganBackwards, HaveBegun, IsClient, RunBackwards};
 

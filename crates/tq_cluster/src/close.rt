@@ -1,10 +1,8 @@
 //! The close of a cluster: an order of all entries, or why there is none.
 
 ghost use Rattle.std.specs.Prelude.{◌≡◌, map, IfOk, IfErr};
-ghost use Rattle.tq_core.specs.Steps.{run};
-ghost use Rattle.tq_core.specs.Headline.{HasCommittedReads};
-ghost use Rattle.tq_merge.specs.Order.{Explains, asks_of};
-ghost use Rattle.tq_merge.specs.Told.{AreKept};
+ghost use Rattle.tq_core.specs.{Steps.run, Headline.HasCommittedReads};
+ghost use Rattle.tq_merge.specs.{Order.{Explains, asks_of}, Told.AreKept};
 ghost use Rattle.tq_merge.specs.Told as kept_words;
 ghost use Rattle.tq_cluster.specs.Cluster.{IsClosedBy};
 

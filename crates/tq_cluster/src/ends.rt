@@ -2,8 +2,7 @@
 
 ghost use Rattle.std.specs.Prelude.{◌≡◌, ◌<◌, ◌+◌, true, false, [], ◌++◌, IfOk, IfSome, IfNone, OnErr};
 ghost use Rattle.std.specs.Bool.{OnTrue, OnFalse};
-ghost use Rattle.crossbeam_channel.specs.Claims.{view, IsSeatAt};
-ghost use Rattle.crossbeam_channel.specs.Ends.{sends_on, receives_on};
+ghost use Rattle.crossbeam_channel.specs.{Claims.{view, IsSeatAt}, Ends.{sends_on, receives_on}};
 ghost use Rattle.tq_cluster.specs.Rule.{hand, HasPrefixTaken, IsCutOff, KeepsMessages, KeepsPartsAndTaken, PutsMore, TakesMore};
 
 use crate::pass_knowledge::{InOrder, PassKnowledge};

@@ -1,12 +1,9 @@
 //! What comes of a close: the journals and their order.
 
 ghost use Rattle.std.specs.Prelude.{◌≡◌, MatchOption, IfOk, IfErr, IfNone};
-ghost use Rattle.tq_core.specs.Steps.{run};
-ghost use Rattle.tq_core.specs.Headline.{HasCommittedReads};
-ghost use Rattle.tq_tables.specs.Parts.{AreLegal};
-ghost use Rattle.tq_tables.specs.Tables.{tables_of};
-ghost use Rattle.tq_merge.specs.Order.{Explains, asks_of};
-ghost use Rattle.tq_merge.specs.Told.{AreKept, IsCloseFault, IsNoOrder};
+ghost use Rattle.tq_core.specs.{Steps.run, Headline.HasCommittedReads};
+ghost use Rattle.tq_tables.specs.{Parts.AreLegal, Tables.tables_of};
+ghost use Rattle.tq_merge.specs.{Order.{Explains, asks_of}, Told.{AreKept, IsCloseFault, IsNoOrder}};
 ghost use Rattle.tq_merge.specs.Told as spec;
 ghost use Rattle.tq_mirror.specs.Prefixes.{AllBegin, IsFirstAstray};
 ghost use Rattle.tq_cluster.specs.Cluster.{AreTablesOfPrefixes};

@@ -1,12 +1,10 @@
 //! The journals under the locks, copied or taken out.
 
-ghost use Rattle.std.specs.Prelude.{◌≡◌, ◌≤◌, [], map, reverse, length, vec_len, vec_capacity};
-ghost use Rattle.std.specs.List.{All};
+ghost use Rattle.std.specs.{Prelude.{◌≡◌, ◌≤◌, [], map, reverse, length, vec_len, vec_capacity}, List.All};
 ghost use Rattle.tq_node.specs.NodeJournal.{IsLegalNode};
 ghost use Rattle.tq_desk.specs.DeskJournal.{IsLegalDesk};
 ghost use Rattle.tq_live.specs.View.{IsLegalView};
-ghost use Rattle.tq_tables.specs.Journals.{IsOfTree};
-ghost use Rattle.tq_tables.specs.Parts.{AreLegalServers, bounds_of};
+ghost use Rattle.tq_tables.specs.{Journals.IsOfTree, Parts.{AreLegalServers, bounds_of}};
 
 use std::alloc::Global;
 use tq_cells::{Cell, Held};

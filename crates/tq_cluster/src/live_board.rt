@@ -2,8 +2,7 @@
 
 ghost use Rattle.std.specs.Prelude.{◌≡◌, ◌≤◌, ◌-◌, ◌^◌, IfOk, IfErr, OnOk, OnErr};
 ghost use Rattle.tq_shape.specs.Tree.{IsServer};
-ghost use Rattle.tq_tables.specs.Parts.{AreLegal};
-ghost use Rattle.tq_tables.specs.Tables.{tables_of};
+ghost use Rattle.tq_tables.specs.{Parts.AreLegal, Tables.tables_of};
 ghost use Rattle.tq_mirror.specs.Prefixes.{IsPartOf, IsPullFault, journals_with, nothing_pulled, prefix_length, server_prefix};
 ghost use Rattle.tq_cluster.specs.Told.{SeesOn, having_seen, seen_of};
 ghost use Rattle.tq_cluster.specs.Rounds.{ArePulled, Continues, EndedAt, HasSeenAll, HasSeenServers, IsPull, SawWhatCame, parts_of, seen_then, servers_from};

@@ -1,9 +1,7 @@
 //! The calls of a channel, under the rule.
 
-ghost use Rattle.std.specs.Prelude.{◌≡◌, ◌<◌, true, false, [], IfOk, IfSome, IfNone};
-ghost use Rattle.std.specs.Bool.{OnTrue, OnFalse};
-ghost use Rattle.crossbeam_channel.specs.Claims.{view, IsSeatAt};
-ghost use Rattle.crossbeam_channel.specs.Ends.{sends_on, receives_on};
+ghost use Rattle.std.specs.{Prelude.{◌≡◌, ◌<◌, true, false, [], IfOk, IfSome, IfNone}, Bool.{OnTrue, OnFalse}};
+ghost use Rattle.crossbeam_channel.specs.{Claims.{view, IsSeatAt}, Ends.{sends_on, receives_on}};
 ghost use Rattle.tq_cluster.specs.Rule.{cut_off, hand, rejoined, with_put, HasPrefixTaken, HasTaken};
 
 use crate::pass_knowledge::{Cut, InOrder, PassKnowledge, Puts, Takes, Whole};

@@ -15,8 +15,7 @@ use tq_txn::{Exchange, Told};
 pub(crate) trait Recorded: Answers {
     ghost use Rattle.std.specs.Prelude.{◌≡◌};
     ghost use Rattle.tq_shape.specs.declared.part.Part.{Part};
-    ghost use Rattle.tq_txn.specs.Dialogue.{Told};
-    ghost use Rattle.tq_txn.specs.declared.asker.Exchange.{Exchange};
+    ghost use Rattle.tq_txn.specs.{Dialogue.Told, declared.asker.Exchange.Exchange};
 
     /// An ask of the part of that name, and what was told of it.
     ghost exchange: { Part → Self.Ask → Told Self.Reply → Exchange };

@@ -2,14 +2,11 @@
 
 ghost use Rattle.std.specs.Prelude.{◌≡◌, ◌≤◌, ◌<◌, ◌+◌, ℕ, [], ◌∷◌, ◌++◌, List, false, true, vec_len, vec_capacity};
 ghost use Rattle.std.specs.Bool.{OnTrue};
-ghost use Rattle.crossbeam_channel.specs.Claims.{view};
-ghost use Rattle.crossbeam_channel.specs.Ends.{sends_on};
+ghost use Rattle.crossbeam_channel.specs.{Claims.view, Ends.sends_on};
 ghost use Rattle.tq_refresh.specs.Plan.{ArePlanned, jobs_in, jobs_of_plan};
-ghost use Rattle.tq_cluster.specs.declared.workers.Message.{Message};
+ghost use Rattle.tq_cluster.specs.{declared.workers.Message.Message, Rounds.{AreRounds, IsPut, IsRound, with_jobs}};
+ghost use Rattle.tq_cluster.specs.{Told.CallerView, Clients.{HaveBegun, WorkBackwards}};
 ghost use Rattle.tq_tables.specs.Journals.{JournalsView};
-ghost use Rattle.tq_cluster.specs.Rounds.{AreRounds, IsPut, IsRound, with_jobs};
-ghost use Rattle.tq_cluster.specs.Told.{CallerView};
-ghost use Rattle.tq_cluster.specs.Clients.{HaveBegun, WorkBackwards};
 
 use crate::Putter;
 use crate::caller::Caller;

@@ -1,10 +1,8 @@
 //! Workers that take jobs from the queue.
 
 ghost use Rattle.std.specs.Prelude.{◌≡◌, ◌<◌, ◌≤◌, ◌+◌, ◌-◌, ℕ, [], ◌∷◌, ◌++◌, List, false, true, IfSome, IfNone, vec_len, vec_capacity};
-ghost use Rattle.crossbeam_channel.specs.Claims.{view};
-ghost use Rattle.crossbeam_channel.specs.Ends.{sends_on, receives_on};
-ghost use Rattle.tq_cluster.specs.declared.workers.Message.{Message};
-ghost use Rattle.tq_cluster.specs.Told.{CallerView};
+ghost use Rattle.crossbeam_channel.specs.{Claims.view, Ends.{sends_on, receives_on}};
+ghost use Rattle.tq_cluster.specs.{declared.workers.Message.Message, Told.CallerView};
 ghost use Rattle.tq_cluster.specs.Clients.{BeginsJobs, JobsBegin, HaveBegun, jobs_in, Works, WorkBackwards};
 
 use crate::asking::Asking;

@@ -2,43 +2,31 @@
 -- Committed reads: each read of a commit is of the last write before it and has its number, and each write the next
 -- number. Committed reads, of the journals of a run.
 use Rattle.std.proofs.Common.{◌≡◌, ℕ, suc, ◌≤◌, Bool, true, false, cond, List, [], ◌∷◌, Option, Some, None, refl, sym, ap, subst, ◌∙◌, ◌⊎◌, inl, inr, arith, ◌≢◌, ◌++◌, reverse}
-use Rattle.std.specs.List.{find, Contains}
-use Rattle.std.proofs.lemmas.Bool.{and_parts, and_from, eqb-true, eq-eqb, cases_lt}
-use Rattle.tq_evidence.specs.declared.op.Op.{Op}
-use Rattle.tq_evidence.specs.Evidence.{is_write, writes_file, servers_of}
+use Rattle.std.proofs.lemmas.{Bool.{and_parts, and_from, eqb-true, eq-eqb, cases_lt}, Map.Views.Contains-from_any}
+use Rattle.std.specs.{List.{find, Contains}, Prelude.{◌==◌, nat_eq, ◌&&◌}, Cmp.Lexicographic.{pointwise, same_text}}
+use Rattle.tq_evidence.specs.{declared.op.Op.Op, Evidence.{is_write, writes_file, servers_of}, declared.vote.Vote.Vote}
+use Rattle.tq_evidence.specs.declared.grant.Grant.{Grant}
 use Rattle.tq_store.specs.Names.{same_name}
 use Rattle.tq_shape.specs.Journal.{Has, entry_at}
 use Rattle.tq_desk.specs.DeskJournal.{Commit, count_one, count, last_one, last_write, IsNumbered, AreNumbered, IsWritten, DeskBounds, DeskEntry, IsLegalDesk, final, with_commit, commits, DeskLaws, IsShown, HasTop}
+use Rattle.tq_desk.specs.{declared.ask.DeskAsk.DeskAsk, declared.ask.DeskReply.DeskReply, DeskStep.cited_votes}
 use Rattle.tq_shape.proofs.Places.{find-Has, none-Has, any-Has, Has-map, map-Has, Has-any, Some-same}
 use Rattle.tq_store.proofs.Padded.{same_name-is, same_name-refl}
-use Rattle.std.specs.Prelude.{◌==◌, nat_eq, ◌&&◌}
-use Rattle.std.specs.Cmp.Lexicographic.{pointwise, same_text}
-use Rattle.std.proofs.lemmas.Map.Views.{Contains-from_any}
 use Rattle.tq_coterie.specs.Coterie.{coterie, has, is_quorum}
 use Rattle.tq_coterie.proofs.Members.{any_two-meet}
 use Rattle.tq_core.proofs.Worlds.{MeetsAll, Event, AtNode, AtDesk, node_journal, desk_journal, IsFoundedCommit, IsFoundedAsk, IsRun, legal_nodes, legal_desk, founded_commits}
-use Rattle.tq_asks.specs.declared.ask.CitedVote.{CitedVote}
-use Rattle.tq_asks.specs.declared.ask.Verdict.{Verdict}
+use Rattle.tq_core.proofs.{Told.{IsTold, shown_commits, decided, told}, Runs.run_from-append}
+use Rattle.tq_core.proofs.Journaled.{bounds_of, HasEvents, run_events}
+use Rattle.tq_asks.specs.declared.ask.{CitedVote.CitedVote, Verdict.Verdict}
 use Rattle.tq_asks.specs.declared.ask.Verdict.TheVariants as verdicts
-use Rattle.tq_desk.specs.declared.ask.DeskAsk.{DeskAsk}
 use Rattle.tq_desk.specs.declared.ask.DeskAsk.TheVariants as asks
-use Rattle.tq_desk.specs.declared.ask.DeskReply.{DeskReply}
 use Rattle.tq_desk.specs.declared.ask.DeskReply.TheVariants as replies
-use Rattle.tq_evidence.specs.declared.grant.Grant.{Grant}
-use Rattle.tq_evidence.specs.declared.vote.Vote.{Vote}
-use Rattle.tq_desk.specs.DeskStep.{cited_votes}
-use Rattle.tq_node.specs.NodeJournal.{NodeEntry, IsCited, HasHeld}
-use Rattle.tq_node.specs.NodeLaws.{NodeLaws}
-use Rattle.tq_core.proofs.Told.{IsTold, shown_commits, decided, told}
+use Rattle.tq_node.specs.{NodeJournal.{NodeEntry, IsCited, HasHeld}, NodeLaws.NodeLaws}
 use Rattle.tq_node.proofs.Lawful.{node_laws}
 use Rattle.tq_desk.proofs.DeskFinal.{desk_laws}
 use Rattle.tq_tables.specs.Journals.{JournalsView}
-use Rattle.tq_core.specs.declared.answer.Step.{Step}
-use Rattle.tq_core.specs.World.{empty_world}
-use Rattle.tq_core.specs.Steps.{run, run_from, IsOfRun}
+use Rattle.tq_core.specs.{declared.answer.Step.Step, World.empty_world, Steps.{run, run_from, IsOfRun}}
 use Rattle.tq_core.specs.Headline.{HasCommittedReads}
-use Rattle.tq_core.proofs.Runs.{run_from-append}
-use Rattle.tq_core.proofs.Journaled.{bounds_of, HasEvents, run_events}
 
 pub writes_file-is : (file : List ℕ) (op : Op) → writes_file file op ≡ true → (is_write op ≡ true) × (op.file ≡ file)
 writes_file-is file op h = let p = and_parts (is_write op) (same_name op.file file) h in (p.0, same_name-is op.file file p.1)

@@ -1,43 +1,29 @@
 -- What an entry says that passes a test: it is that entry, and it passes. An ask of the desk is founded where each
 -- grant and each vote is that it cites.
-use Rattle.std.specs.Prelude.{◌==◌, ◌&&◌, not}
-use Rattle.std.proofs.Common.{◌≡◌, ℕ, Bool, true, false, List, [], ◌∷◌, map, Option, Some, None, refl, ap, ◌∙◌, inl, inr, subst, sym}
-use Rattle.std.specs.Cmp.Lexicographic.{pointwise}
-use Rattle.std.specs.List.{find}
-use Rattle.std.proofs.lemmas.Bool.{and_from, and_parts, cond-false, eqb-true, eq-eqb, false≢true}
+use Rattle.std.specs.{Prelude.{◌==◌, ◌&&◌, not}, Cmp.Lexicographic.pointwise, List.find}
 use Rattle.std.specs.Option.{option_map, option_map_or}
-use Rattle.tq_shape.specs.Journal.{Has, entry, or_else}
-use Rattle.tq_shape.specs.declared.part.Part.TheVariants.{Desk}
-use Rattle.tq_shape.proofs.Options.{map-none, or_else-none}
-use Rattle.tq_shape.proofs.Places.{none-Has}
-use Rattle.tq_store.specs.declared.write.Write.{Write}
-use Rattle.tq_asks.specs.declared.ask.CitedVote.{CitedVote}
-use Rattle.tq_asks.specs.declared.ask.NodeAsk.{NodeAsk}
+use Rattle.std.proofs.Common.{◌≡◌, ℕ, Bool, true, false, List, [], ◌∷◌, map, Option, Some, None, refl, ap, ◌∙◌, inl, inr, subst, sym}
+use Rattle.std.proofs.lemmas.Bool.{and_from, and_parts, cond-false, eqb-true, eq-eqb, false≢true}
+use Rattle.tq_shape.specs.{Journal.{Has, entry, or_else}, declared.part.Part.TheVariants.Desk}
+use Rattle.tq_shape.proofs.{Options.{map-none, or_else-none}, Places.none-Has}
+use Rattle.tq_store.specs.{declared.write.Write.Write, Names.same_name}
+use Rattle.tq_asks.specs.declared.ask.{CitedVote.CitedVote, NodeAsk.NodeAsk, NodeReply.NodeReply, Verdict.Verdict}
+use Rattle.tq_asks.specs.Verdicts.{same_verdict}
 use Rattle.tq_asks.specs.declared.ask.NodeAsk.TheVariants as node_asks
-use Rattle.tq_asks.specs.declared.ask.NodeReply.{NodeReply}
 use Rattle.tq_asks.specs.declared.ask.NodeReply.TheVariants as node_replies
-use Rattle.tq_asks.specs.declared.ask.Verdict.{Verdict}
 use Rattle.tq_asks.specs.declared.ask.Verdict.TheVariants as verdicts
 use Rattle.tq_asks.specs.declared.ask.WorkAsk.TheVariants as work
-use Rattle.tq_desk.specs.declared.ask.DeskAsk.{DeskAsk}
+use Rattle.tq_desk.specs.{declared.ask.DeskAsk.DeskAsk, declared.ask.DeskReply.DeskReply, DeskStep.citation}
+use Rattle.tq_desk.specs.DeskJournal.{DeskEntry, gives_verdict}
 use Rattle.tq_desk.specs.declared.ask.DeskAsk.TheVariants as desk_asks
 use Rattle.tq_desk.specs.declared.ask.DeskRefusal.TheVariants as desk_refusals
-use Rattle.tq_desk.specs.declared.ask.DeskReply.{DeskReply}
 use Rattle.tq_desk.specs.declared.ask.DeskReply.TheVariants as desk_replies
-use Rattle.tq_evidence.specs.declared.grant.Grant.{Grant}
-use Rattle.tq_evidence.specs.declared.op.Op.{Op}
-use Rattle.tq_evidence.specs.declared.vote.Vote.{Vote}
+use Rattle.tq_evidence.specs.declared.{grant.Grant.Grant, op.Op.Op, vote.Vote.Vote}
 use Rattle.tq_node.specs.NodeJournal.{NodeEntry}
-use Rattle.tq_store.specs.Names.{same_name}
-use Rattle.tq_desk.specs.DeskStep.{citation}
 use Rattle.tq_desk.specs.DeskStep as log
-use Rattle.tq_desk.specs.DeskJournal.{DeskEntry, gives_verdict}
-use Rattle.tq_asks.specs.Verdicts.{same_verdict}
-use Rattle.tq_core.specs.World.{item_at, server_entry}
+use Rattle.tq_core.specs.{World.{item_at, server_entry}, declared.citation.Citation.Citation}
 use Rattle.tq_core.specs.Founded.{cites, cites_votes, is_granted, is_voted, is_peeked, is_ended, is_founded_grant, is_founded_vote, cited_grant, cited_vote, unless, unfounded_grant, unfounded_op, unfounded_vote, unfounded_in_desk_ask, unfounded_in_node_ask}
-use Rattle.tq_core.specs.declared.citation.Citation.{Citation}
-use Rattle.tq_tables.specs.Journals.{JournalsView}
-use Rattle.tq_tables.specs.Same.{same_mode, same_lock, same_write}
+use Rattle.tq_tables.specs.{Journals.JournalsView, Same.{same_mode, same_lock, same_write}}
 use Rattle.tq_tables.proofs.Equal.{work-is, node_ask-self, node_reply-is, node_reply-self, desk_reply-self, verdict-is}
 
 -- lists whose items are the same in pairs

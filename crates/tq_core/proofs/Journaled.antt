@@ -1,41 +1,30 @@
 -- A step that is not refused: its part has room in its journal. A world of journals, each the oldest entry first, and
 -- the events that made it, the newest first.
 use Rattle.std.proofs.Common.{◌≡◌, ◌<◌, ◌-◌, ℕ, zero, suc, Bool, true, false, cond, List, [], ◌∷◌, length, Option, Some, None, refl, sym, ap, subst, ◌∙◌, nat_le, nat_lt, arith, ◌≢◌, ◌^◌, eqb, ◌++◌, set, replicate, reverse}
-use Rattle.std.specs.Prelude.{slice_get, if◌then◌else◌}
-use Rattle.std.specs.Option.{unwrap_or, option_and_then}
-use Rattle.tq_shape.specs.declared.part.Part.{Part}
+use Rattle.std.proofs.lemmas.Bool.{eqb-true, eq-eqb, false≢true}
+use Rattle.std.specs.{Prelude.{slice_get, if◌then◌else◌}, Option.{unwrap_or, option_and_then}}
+use Rattle.tq_shape.specs.{declared.part.Part.Part, Limits.LimitsView, Journal.{entry_at, entry, state_at}}
 use Rattle.tq_shape.specs.declared.part.Part.TheVariants as parts
 use Rattle.tq_tables.specs.Journals.{JournalsView}
 use Rattle.tq_node.specs.NodeJournal.{NodeEntry, nothing_stored, node_state, inner}
-use Rattle.tq_core.specs.declared.answer.Refusal.{Refusal}
-use Rattle.tq_core.specs.declared.answer.Refusal.TheVariants as refusals
-use Rattle.tq_core.specs.declared.citation.Citation.{Citation}
+use Rattle.tq_node.specs.Records.{NodeState, node_reply, node_after}
+use Rattle.tq_core.specs.declared.{answer.Refusal.Refusal, citation.Citation.Citation, answer.Step.Step}
 use Rattle.tq_core.specs.World.{item_at, server_entry, empty_world, node_at, desk_at}
 use Rattle.tq_core.specs.Steps.{refuse_unfounded, refuse_entry, refuse_at, server_journal, refusal, node_entry, desk_entry, world_with_step, world_after, run_from, run}
-use Rattle.std.proofs.lemmas.Bool.{eqb-true, eq-eqb, false≢true}
-use Rattle.tq_shape.specs.Limits.{LimitsView}
-use Rattle.tq_shape.specs.Journal.{entry_at, entry, state_at}
-use Rattle.tq_shape.proofs.Joined.{reverse-push, at-reverse, state-reverse}
-use Rattle.tq_asks.specs.declared.ask.CitedVote.{CitedVote}
-use Rattle.tq_asks.specs.declared.ask.NodeAsk.{NodeAsk}
-use Rattle.tq_asks.specs.declared.ask.NodeAsk.TheVariants as node_asks
-use Rattle.tq_asks.specs.declared.ask.Verdict.{Verdict}
-use Rattle.tq_asks.specs.declared.ask.WorkAsk.{WorkAsk}
-use Rattle.tq_asks.specs.declared.ask.WorkAsk.TheVariants as work
-use Rattle.tq_node.specs.Records.{NodeState, node_reply, node_after}
-use Rattle.tq_desk.specs.declared.ask.DeskAsk.{DeskAsk}
-use Rattle.tq_desk.specs.declared.ask.DeskAsk.TheVariants as desk_asks
-use Rattle.tq_evidence.specs.declared.grant.Grant.{Grant}
-use Rattle.tq_evidence.specs.declared.vote.Vote.{Vote}
-use Rattle.tq_desk.specs.DeskStep.{DeskView, desk_reply}
-use Rattle.tq_desk.specs.DeskJournal.{DeskBounds, desk_state, opened_desk, step_reply, step_after, VerdictAt, DeskEntry}
-use Rattle.tq_core.specs.declared.answer.Step.{Step}
-use Rattle.tq_core.specs.declared.answer.Step.TheVariants as steps
 use Rattle.tq_core.specs.Founded.{is_founded_grant, is_founded_vote, is_founded_copy, is_founded_verdict, is_granted, is_voted, is_peeked, is_ended, unfounded_op, unfounded_vote, unfounded_in_desk_ask, unfounded_in_node_ask, unfounded_in_work}
+use Rattle.tq_core.specs.declared.answer.Refusal.TheVariants as refusals
+use Rattle.tq_shape.proofs.{Joined.{reverse-push, at-reverse, state-reverse}, Options.or_else-none}
+use Rattle.tq_asks.specs.declared.ask.{CitedVote.CitedVote, NodeAsk.NodeAsk, Verdict.Verdict, WorkAsk.WorkAsk}
+use Rattle.tq_asks.specs.declared.ask.NodeAsk.TheVariants as node_asks
+use Rattle.tq_asks.specs.declared.ask.WorkAsk.TheVariants as work
+use Rattle.tq_desk.specs.{declared.ask.DeskAsk.DeskAsk, DeskStep.{DeskView, desk_reply}}
+use Rattle.tq_desk.specs.DeskJournal.{DeskBounds, desk_state, opened_desk, step_reply, step_after, VerdictAt, DeskEntry}
+use Rattle.tq_desk.specs.declared.ask.DeskAsk.TheVariants as desk_asks
+use Rattle.tq_evidence.specs.declared.{grant.Grant.Grant, vote.Vote.Vote}
+use Rattle.tq_core.specs.declared.answer.Step.TheVariants as steps
 use Rattle.tq_core.proofs.Contents.{granted-is, voted-is, peeked-is, ended-is, tested-is, unless_none, ops-are, votes-are}
 use Rattle.tq_core.proofs.Runs.{world_grown}
 use Rattle.tq_core.proofs.Worlds.{Event, AtNode, AtDesk, node_journal, desk_journal, IsFoundedGrant, IsFoundedVote, IsFoundedSource, IsFoundedWork, IsFoundedAsk, IsRun}
-use Rattle.tq_shape.proofs.Options.{or_else-none}
 
 refuses_nothing : (test : Bool) (part : Part) (citation : Option Citation) → (if test then Some (refusals.JournalFull part) else refuse_unfounded citation) ≡ None → test ≡ false
 refuses_nothing true part citation none = cc

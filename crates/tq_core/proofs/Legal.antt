@@ -1,36 +1,26 @@
 -- A Choose is answered with the best quorum for its purpose that is up, or with a blocker where none is. The journals
 -- of a run are legal, and what is answered in it is offered.
 use Rattle.std.proofs.Common.{◌≡◌, ℕ, Bool, true, false, List, [], Option, Some, None, is_some, not, sum_by, refl, sym, ap, subst, ◌∙◌, ◌+◌, ◌-◌, nat_lt, cond, suc, ◌∷◌, ◌++◌, arith}
-use Rattle.std.specs.Option.{unwrap_or}
 use Rattle.std.proofs.lemmas.Bool.{false≢true}
-use Rattle.tq_live.specs.Live.{Live, cost_of, best, blocker, IsChoice}
-use Rattle.tq_live.specs.declared.purpose.Purpose.{Purpose}
+use Rattle.std.specs.{Option.unwrap_or, Prelude.{reverse, slice_get, if◌then◌else◌, Result, Ok, Err, IfOk}}
+use Rattle.tq_live.specs.{Live.{Live, cost_of, best, blocker, IsChoice}, declared.purpose.Purpose.Purpose}
+use Rattle.tq_live.specs.View.{choice_reply, view_reply, view_reply_at, view_after_at, view_state, IsLegalView}
+use Rattle.tq_live.specs.declared.view.ViewAsk.{ViewAsk}
 use Rattle.tq_live.specs.declared.choice.Choice.TheVariants as choices
 use Rattle.tq_live.specs.declared.view.ViewAsk.TheVariants as asks
-use Rattle.tq_live.specs.View.{choice_reply, view_reply, view_reply_at, view_after_at, view_state, IsLegalView}
-use Rattle.tq_live.proofs.Either.{has-either, first-choice}
-use Rattle.tq_tables.specs.Journals.{JournalsView}
-use Rattle.tq_core.specs.declared.answer.Answer.{Answer}
-use Rattle.tq_core.specs.declared.answer.Reply.{Reply}
-use Rattle.tq_core.specs.declared.answer.Reply.TheVariants as replies
-use Rattle.tq_core.specs.declared.answer.Step.TheVariants as steps
+use Rattle.tq_live.proofs.{Either.{has-either, first-choice}, Journal.replays}
+use Rattle.tq_tables.specs.{Journals.JournalsView, Parts.{AreLegal, AreLegalServers}, Tables.{TablesView, tables_of}}
+use Rattle.tq_core.specs.declared.answer.{Answer.Answer, Reply.Reply, Refusal.Refusal, Step.Step}
 use Rattle.tq_core.specs.World.{view_at, empty_world, item_at}
 use Rattle.tq_core.specs.Headline.{IsOffer, OffersBest, HasCommittedReads, AreOffered, Headline}
 use Rattle.tq_core.specs.Steps.{answer, IsOfRun, refusal, world_with_step, world_after, run_from, run, view_entry, server_journal, told_at, is_memory, IsTold, AreTold}
-use Rattle.tq_live.specs.declared.view.ViewAsk.{ViewAsk}
-use Rattle.std.specs.Prelude.{reverse, slice_get, if◌then◌else◌, Result, Ok, Err, IfOk}
-use Rattle.tq_shape.specs.Limits.{LimitsView}
+use Rattle.tq_core.specs.declared.answer.Reply.TheVariants as replies
+use Rattle.tq_core.specs.declared.answer.Step.TheVariants as steps
+use Rattle.tq_shape.specs.{Limits.LimitsView, Journal.state_at}
 use Rattle.tq_shape.proofs.Joined.{legal-push}
 use Rattle.tq_node.specs.NodeJournal.{NodeEntry, IsLegalNode}
 use Rattle.tq_desk.specs.DeskJournal.{DeskEntry, IsLegalDesk}
-use Rattle.tq_live.proofs.Journal.{replays}
-use Rattle.tq_tables.specs.Parts.{AreLegal, AreLegalServers}
-use Rattle.tq_tables.specs.Tables.{TablesView, tables_of}
-use Rattle.tq_core.specs.declared.answer.Refusal.{Refusal}
-use Rattle.tq_core.specs.declared.answer.Step.{Step}
-use Rattle.tq_shape.specs.Journal.{state_at}
-use Rattle.tq_core.proofs.Journaled.{bounds_of, HasEvents, run_events}
-use Rattle.tq_core.proofs.Worlds.{legal_nodes, legal_desk}
+use Rattle.tq_core.proofs.{Journaled.{bounds_of, HasEvents, run_events}, Worlds.{legal_nodes, legal_desk}}
 
 found_one : {A : Type 0} (o : Option A) (d : A) → is_some o ≡ true → o ≡ Some (unwrap_or o d)
 found_one None d is = absurd (false≢true is)

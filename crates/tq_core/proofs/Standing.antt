@@ -1,59 +1,37 @@
 -- A service stands as its journals say, also after one more entry.
 use Rattle.std.proofs.Common.{◌≡◌, ◌≤◌, ◌<◌, ◌+◌, ◌-◌, ◌^◌, ℕ, suc, Bool, true, false, cond, List, [], ◌∷◌, ◌++◌, length, map, set, get_or, replicate, Option, Some, None, refl, sym, ap, subst, ◌∙◌, arith}
-use Rattle.std.specs.Prelude.{nat_lt, slice_get, reverse, Result, Ok, Err, IfOk, OnErr}
-use Rattle.std.specs.Option.{option_map, unwrap_or}
-use Rattle.std.specs.Result.{IsErrAnd}
 use Rattle.std.proofs.lemmas.List.{get_or-map, length-map, length-set, length-replicate, length_push, map-set, set-get_or}
-use Rattle.std.proofs.lemmas.Option.{get_or_from_slice_get, slice_get-get_or, slice_get_within}
-use Rattle.std.proofs.lemmas.List.Elements.{All-set, All-replicate, All-push}
-use Rattle.std.proofs.lemmas.List.Sums.{fold-append}
-use Rattle.std.proofs.lemmas.Nat.{pow_pos}
-use Rattle.tq_shape.specs.Limits.{LimitsView}
-use Rattle.tq_shape.specs.Tree.{IsServer}
-use Rattle.tq_shape.specs.Journal.{entry}
-use Rattle.tq_shape.specs.declared.part.Entry.{Entry}
+use Rattle.std.proofs.lemmas.{Option.{get_or_from_slice_get, slice_get-get_or, slice_get_within}, List.Sums.fold-append}
+use Rattle.std.proofs.lemmas.{List.Elements.{All-set, All-replicate, All-push}, Nat.pow_pos}
+use Rattle.std.specs.{Prelude.{nat_lt, slice_get, reverse, Result, Ok, Err, IfOk, OnErr}, Result.IsErrAnd}
+use Rattle.std.specs.Option.{option_map, unwrap_or}
+use Rattle.tq_shape.specs.{Limits.LimitsView, Tree.IsServer, Journal.entry, declared.part.Entry.Entry}
+use Rattle.tq_shape.specs.declared.{fault.AskFault.AskFault, journaled.Answered.Answered}
 use Rattle.tq_shape.specs.declared.part.Part.TheVariants as parts
-use Rattle.tq_shape.specs.declared.fault.AskFault.{AskFault}
 use Rattle.tq_shape.specs.declared.fault.AskFault.TheVariants as ask_faults
-use Rattle.tq_shape.specs.declared.journaled.Answered.{Answered}
-use Rattle.tq_asks.specs.declared.ask.NodeAsk.{NodeAsk}
-use Rattle.tq_asks.specs.declared.ask.NodeReply.{NodeReply}
-use Rattle.tq_node.specs.Node.{NodeView}
-use Rattle.tq_node.specs.NodeJournal.{NodeEntry}
-use Rattle.tq_node.specs.Records.{node_reply}
-use Rattle.tq_desk.specs.declared.ask.DeskAsk.{DeskAsk}
-use Rattle.tq_desk.specs.declared.ask.DeskReply.{DeskReply}
-use Rattle.tq_desk.specs.DeskJournal.{DeskEntry}
+use Rattle.tq_asks.specs.declared.ask.{NodeAsk.NodeAsk, NodeReply.NodeReply}
+use Rattle.tq_node.specs.{Node.NodeView, NodeJournal.NodeEntry, Records.node_reply}
+use Rattle.tq_desk.specs.{declared.ask.DeskAsk.DeskAsk, declared.ask.DeskReply.DeskReply, DeskJournal.DeskEntry}
 use Rattle.tq_desk.specs.DeskStep.{DeskView}
 use Rattle.tq_desk.proofs.DecisionLog.{desk_keeps}
-use Rattle.tq_live.specs.Live.{Live, best}
-use Rattle.tq_live.specs.View.{view_reply, is_server, are_costs, choice_reply}
-use Rattle.tq_live.specs.declared.purpose.Purpose.{Purpose}
-use Rattle.tq_live.specs.declared.view.ViewAsk.{ViewAsk}
+use Rattle.tq_live.specs.{Live.{Live, best}, View.{view_reply, is_server, are_costs, choice_reply}}
+use Rattle.tq_live.specs.declared.{purpose.Purpose.Purpose, view.ViewAsk.ViewAsk, view.ViewReply.ViewReply}
 use Rattle.tq_live.specs.declared.view.ViewAsk.TheVariants.{SetCost, Mark, Choose}
-use Rattle.tq_live.specs.declared.view.ViewReply.{ViewReply}
 use Rattle.tq_live.specs.declared.view.ViewReply.TheVariants.{CostSet, Marked, Refused}
 use Rattle.tq_live.specs.declared.view.ViewRefusal.TheVariants.{NoSuchServer, BadCost}
 use Rattle.tq_tables.specs.Tables.{FollowsDesk, FollowsNode, FollowsView, MayAskNode, both, desk_replies, node_in, node_replies, view_replies, entries_of, with_node, TablesView, tables_of}
-use Rattle.tq_tables.specs.declared.parts.Replies.{Replies}
+use Rattle.tq_tables.specs.{declared.parts.Replies.Replies, Parts.{AreLegal, bounds_of, node_after_all}}
 use Rattle.tq_tables.specs.Journals.{JournalsView, AreJournals, IsOfTree, ViewEntry, with_desk, with_view}
-use Rattle.tq_tables.specs.Parts.{AreLegal, bounds_of, node_after_all}
-use Rattle.tq_tables.proofs.Restood.{is_there, node_in-at, node_is}
-use Rattle.tq_tables.proofs.RowLaws.{desk_at-is}
-use Rattle.tq_core.specs.declared.answer.Reply.{Reply}
-use Rattle.tq_core.specs.declared.answer.Reply.TheVariants as replies
-use Rattle.tq_core.specs.declared.answer.Step.{Step}
-use Rattle.tq_core.specs.declared.answer.Step.TheVariants as steps
-use Rattle.tq_core.specs.declared.citation.Citation.{Citation}
-use Rattle.tq_core.specs.World.{item_at, empty_world, view_at}
-use Rattle.tq_core.specs.Founded.{unfounded_in_node_ask, unfounded_in_desk_ask}
-use Rattle.tq_core.specs.Headline.{OffersBest}
-use Rattle.tq_core.specs.Steps.{refuse_entry, refuse_at, refusal, answer, server_journal, node_entry, desk_entry, view_entry, world_with_step, world_after, run, IsOfRun, IsTold}
-use Rattle.tq_core.proofs.Legal.{all_offered, legal_run}
-use Rattle.tq_core.proofs.Journaled.{entry_room, item_above, node_room}
-use Rattle.tq_core.proofs.Runs.{told_answer, told_refusal, world_grown}
-use Rattle.tq_core.specs.Service.{answer_of, refusal_of, told_by, IsService}
 use Rattle.tq_tables.specs.Tabled.{journals_in}
+use Rattle.tq_tables.proofs.{Restood.{is_there, node_in-at, node_is}, RowLaws.desk_at-is}
+use Rattle.tq_core.specs.declared.{answer.Reply.Reply, answer.Step.Step, citation.Citation.Citation}
+use Rattle.tq_core.specs.{World.{item_at, empty_world, view_at}, Founded.{unfounded_in_node_ask, unfounded_in_desk_ask}}
+use Rattle.tq_core.specs.{Headline.OffersBest, Service.{answer_of, refusal_of, told_by, IsService}}
+use Rattle.tq_core.specs.Steps.{refuse_entry, refuse_at, refusal, answer, server_journal, node_entry, desk_entry, view_entry, world_with_step, world_after, run, IsOfRun, IsTold}
+use Rattle.tq_core.specs.declared.answer.Reply.TheVariants as replies
+use Rattle.tq_core.specs.declared.answer.Step.TheVariants as steps
+use Rattle.tq_core.proofs.{Legal.{all_offered, legal_run}, Journaled.{entry_room, item_above, node_room}}
+use Rattle.tq_core.proofs.Runs.{told_answer, told_refusal, world_grown}
 
 -- ---- whether an ask is taken
 

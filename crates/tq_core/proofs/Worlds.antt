@@ -1,22 +1,16 @@
 -- A world as the list of what its servers and its desk answered, in the order in which they did, the newest first. The
 -- journals of a world as it grows: legal, and with founded entries.
 use Rattle.std.specs.Prelude.{◌≡◌, ℕ, Bool, true, cond, List, [], ◌∷◌, Option, Some}
-use Rattle.std.proofs.Common.{eqb, false, None, refl, subst, ◌⊎◌, inl, inr}
+use Rattle.std.proofs.{Common.{eqb, false, None, refl, subst, ◌⊎◌, inl, inr}, lemmas.Bool.eqb-true}
 use Rattle.tq_shape.specs.Journal.{Has, entry_at}
-use Rattle.tq_asks.specs.declared.ask.CitedVote.{CitedVote}
-use Rattle.tq_asks.specs.declared.ask.WorkAsk.{WorkAsk}
+use Rattle.tq_asks.specs.declared.ask.{CitedVote.CitedVote, WorkAsk.WorkAsk, Verdict.Verdict}
 use Rattle.tq_asks.specs.declared.ask.WorkAsk.TheVariants as work
 use Rattle.tq_node.specs.Records.{node_reply}
 use Rattle.tq_node.specs.NodeJournal.{NodeEntry, node_state, inner, GrantAt, PeekAt, YesAt, IsLegalNode, InnerAt, DecisionAt}
-use Rattle.tq_desk.specs.declared.ask.DeskAsk.{DeskAsk}
-use Rattle.tq_desk.specs.declared.ask.DeskAsk.TheVariants as asks
-use Rattle.tq_evidence.specs.declared.grant.Grant.{Grant}
-use Rattle.tq_evidence.specs.declared.op.Op.{Op}
-use Rattle.tq_evidence.specs.declared.vote.Vote.{Vote}
-use Rattle.tq_desk.specs.DeskStep.{desk_reply}
+use Rattle.tq_desk.specs.{declared.ask.DeskAsk.DeskAsk, DeskStep.desk_reply}
 use Rattle.tq_desk.specs.DeskJournal.{DeskBounds, DeskEntry, desk_state, VerdictAt, IsLegalDesk, Commit, commits}
-use Rattle.std.proofs.lemmas.Bool.{eqb-true}
-use Rattle.tq_asks.specs.declared.ask.Verdict.{Verdict}
+use Rattle.tq_desk.specs.declared.ask.DeskAsk.TheVariants as asks
+use Rattle.tq_evidence.specs.declared.{grant.Grant.Grant, op.Op.Op, vote.Vote.Vote}
 use Rattle.tq_desk.specs.declared.ask.DeskReply.TheVariants as replies
 use Rattle.tq_desk.proofs.DeskFinal.{commit-cases}
 use Rattle.tq_shape.proofs.Places.{at-cases, at-old}

@@ -1,32 +1,21 @@
 -- Founded citations: the entry that is cited stands in the world, with the content that is cited.
 use Rattle.std.specs.Prelude.{◌==◌, ◌&&◌, ℕ, Bool, true, false, not, List, [], ◌∷◌, Option, Some, None, find, if◌then◌else◌}
-use Rattle.std.specs.Cmp.Lexicographic.{pointwise}
-use Rattle.std.specs.Option.{option_and_then, option_map, option_map_or}
-use Rattle.tq_shape.specs.declared.part.Part.TheVariants.{Server, Desk}
-use Rattle.tq_asks.specs.declared.ask.CitedVote.{CitedVote}
-use Rattle.tq_asks.specs.declared.ask.NodeAsk.{NodeAsk}
+use Rattle.std.specs.{Cmp.Lexicographic.pointwise, Option.{option_and_then, option_map, option_map_or}}
+use Rattle.tq_shape.specs.{declared.part.Part.TheVariants.{Server, Desk}, Journal.or_else}
+use Rattle.tq_asks.specs.declared.ask.{CitedVote.CitedVote, NodeAsk.NodeAsk, NodeReply.NodeReply, Verdict.Verdict}
+use Rattle.tq_asks.specs.{declared.ask.WorkAsk.WorkAsk, Verdicts.same_verdict}
 use Rattle.tq_asks.specs.declared.ask.NodeAsk.TheVariants as node_asks
-use Rattle.tq_asks.specs.declared.ask.NodeReply.{NodeReply}
 use Rattle.tq_asks.specs.declared.ask.NodeReply.TheVariants as node_replies
-use Rattle.tq_asks.specs.declared.ask.Verdict.{Verdict}
 use Rattle.tq_asks.specs.declared.ask.Verdict.TheVariants as verdicts
-use Rattle.tq_asks.specs.declared.ask.WorkAsk.{WorkAsk}
 use Rattle.tq_asks.specs.declared.ask.WorkAsk.TheVariants as work
-use Rattle.tq_asks.specs.Verdicts.{same_verdict}
-use Rattle.tq_desk.specs.declared.ask.DeskAsk.{DeskAsk}
+use Rattle.tq_desk.specs.declared.ask.{DeskAsk.DeskAsk, DeskReply.DeskReply}
 use Rattle.tq_desk.specs.declared.ask.DeskAsk.TheVariants as desk_asks
 use Rattle.tq_desk.specs.declared.ask.DeskRefusal.TheVariants as desk_refusals
-use Rattle.tq_desk.specs.declared.ask.DeskReply.{DeskReply}
 use Rattle.tq_desk.specs.declared.ask.DeskReply.TheVariants as desk_replies
-use Rattle.tq_evidence.specs.declared.grant.Grant.{Grant}
-use Rattle.tq_evidence.specs.declared.op.Op.{Op}
-use Rattle.tq_evidence.specs.declared.vote.Vote.{Vote}
+use Rattle.tq_evidence.specs.declared.{grant.Grant.Grant, op.Op.Op, vote.Vote.Vote}
 use Rattle.tq_store.specs.Names.{same_name}
-use Rattle.tq_tables.specs.Same.{same_mode, same_lock, same_write}
-use Rattle.tq_tables.specs.Journals.{JournalsView}
-use Rattle.tq_core.specs.declared.citation.Citation.{Citation}
-use Rattle.tq_core.specs.World.{item_at, server_entry}
-use Rattle.tq_shape.specs.Journal.{or_else}
+use Rattle.tq_tables.specs.{Same.{same_mode, same_lock, same_write}, Journals.JournalsView}
+use Rattle.tq_core.specs.{declared.citation.Citation.Citation, World.{item_at, server_entry}}
 
 -- ---- what an entry says
 

@@ -2,22 +2,15 @@
 -- the costs and marks that the view's journal leaves. The headline: what holds of a world after any list of steps.
 use Rattle.std.specs.Prelude.{reverse, ⊤, ◌≡◌, List, [], ◌∷◌, Result, IfOk, if◌then◌else◌}
 use Rattle.tq_desk.specs.DeskJournal.{commits, AreNumbered}
-use Rattle.tq_tables.specs.Journals.{JournalsView}
-use Rattle.tq_live.specs.Live.{Live, IsChoice, IsFirstChoice}
-use Rattle.tq_live.specs.declared.purpose.Purpose.{Purpose}
+use Rattle.tq_tables.specs.{Journals.JournalsView, Tables.{TablesView, tables_of}}
+use Rattle.tq_live.specs.{Live.{Live, IsChoice, IsFirstChoice}, declared.purpose.Purpose.Purpose}
+use Rattle.tq_live.specs.declared.view.{ViewReply.TheVariants.{Chosen, Refused}, ViewRefusal.TheVariants.Blocked}
 use Rattle.tq_live.specs.declared.choice.Choice.TheVariants as choices
 use Rattle.tq_live.specs.declared.view.ViewAsk.TheVariants as asks
-use Rattle.tq_live.specs.declared.view.ViewReply.TheVariants.{Chosen, Refused}
-use Rattle.tq_live.specs.declared.view.ViewRefusal.TheVariants.{Blocked}
-use Rattle.tq_core.specs.declared.answer.Answer.{Answer}
-use Rattle.tq_core.specs.declared.answer.Reply.{Reply}
+use Rattle.tq_core.specs.declared.answer.{Answer.Answer, Reply.Reply, Step.Step, Refusal.Refusal}
+use Rattle.tq_core.specs.{World.view_at, Steps.{answer, is_memory, world_after}}
 use Rattle.tq_core.specs.declared.answer.Reply.TheVariants as replies
-use Rattle.tq_core.specs.declared.answer.Step.{Step}
 use Rattle.tq_core.specs.declared.answer.Step.TheVariants as steps
-use Rattle.tq_core.specs.World.{view_at}
-use Rattle.tq_tables.specs.Tables.{TablesView, tables_of}
-use Rattle.tq_core.specs.declared.answer.Refusal.{Refusal}
-use Rattle.tq_core.specs.Steps.{answer, is_memory, world_after}
 
 -- In each commit, in the order of the desk's journal: a read of a file has the content that the last commit before it
 -- which writes the file wrote, empty where none does, and as version the number of commits before it that write the file;

@@ -1,15 +1,11 @@
 -- What a service keeps: its tables, and beside them the journals that they are of. An ask of one part and a step: the
 -- same things are told.
 use Rattle.std.specs.Prelude.{◌≡◌, Result, Ok, Err}
-use Rattle.tq_tables.specs.Journals.{AreJournals, JournalsView}
-use Rattle.tq_tables.specs.Tables.{TablesView, tables_of}
-use Rattle.tq_core.specs.Steps.{IsOfRun}
-use Rattle.tq_shape.specs.declared.fault.AskFault.{AskFault}
-use Rattle.tq_shape.specs.declared.fault.AskFault.TheVariants as ask_faults
-use Rattle.tq_shape.specs.declared.journaled.Answered.{Answered}
-use Rattle.tq_core.specs.declared.answer.Answer.{Answer}
-use Rattle.tq_core.specs.declared.answer.Reply.{Reply}
+use Rattle.tq_tables.specs.{Journals.{AreJournals, JournalsView}, Tables.{TablesView, tables_of}}
+use Rattle.tq_core.specs.{Steps.IsOfRun, declared.answer.Answer.Answer, declared.answer.Reply.Reply}
 use Rattle.tq_core.specs.declared.answer.Refusal.{Refusal}
+use Rattle.tq_shape.specs.declared.{fault.AskFault.AskFault, journaled.Answered.Answered}
+use Rattle.tq_shape.specs.declared.fault.AskFault.TheVariants as ask_faults
 use Rattle.tq_core.specs.declared.answer.Refusal.TheVariants as refusals
 
 -- the journals are those of a run, and the tables are theirs

@@ -1,28 +1,19 @@
 -- What the service answers to a step, and the world after it: the run of a list of steps.
 use Rattle.std.specs.Prelude.{◌≡◌, ◌-◌, ℕ, suc, Bool, true, false, nat_le, List, [], ◌∷◌, ◌++◌, length, Option, Some, None, Result, Ok, Err, slice_set, if◌then◌else◌, fold}
 use Rattle.std.specs.Option.{unwrap_or}
-use Rattle.tq_shape.specs.Limits.{LimitsView}
-use Rattle.tq_shape.specs.Journal.{entry, state_at}
-use Rattle.tq_shape.specs.declared.part.Part.{Part}
+use Rattle.tq_shape.specs.{Limits.LimitsView, Journal.{entry, state_at}, declared.part.Part.Part}
 use Rattle.tq_shape.specs.declared.part.Part.TheVariants.{Server, Desk, View}
 use Rattle.tq_asks.specs.declared.ask.NodeAsk.{NodeAsk}
-use Rattle.tq_node.specs.Records.{node_reply}
-use Rattle.tq_desk.specs.declared.ask.DeskAsk.{DeskAsk}
-use Rattle.tq_desk.specs.DeskStep.{desk_reply}
-use Rattle.tq_live.specs.declared.view.ViewAsk.{ViewAsk}
-use Rattle.tq_live.specs.View.{view_reply}
+use Rattle.tq_node.specs.{Records.node_reply, NodeJournal.NodeEntry}
+use Rattle.tq_desk.specs.{declared.ask.DeskAsk.DeskAsk, DeskStep.desk_reply, DeskJournal.DeskEntry}
+use Rattle.tq_live.specs.{declared.view.ViewAsk.ViewAsk, View.view_reply}
 use Rattle.tq_tables.specs.Journals.{JournalsView, ViewEntry}
-use Rattle.tq_desk.specs.DeskJournal.{DeskEntry}
-use Rattle.tq_node.specs.NodeJournal.{NodeEntry}
-use Rattle.tq_core.specs.declared.answer.Answer.{Answer}
-use Rattle.tq_core.specs.declared.answer.Refusal.{Refusal}
+use Rattle.tq_core.specs.declared.answer.{Answer.Answer, Refusal.Refusal, Step.Step}
 use Rattle.tq_core.specs.declared.answer.Refusal.TheVariants.{Memory, NoSuchServer, JournalFull, Unfounded}
-use Rattle.tq_core.specs.declared.answer.Reply.TheVariants as replies
-use Rattle.tq_core.specs.declared.answer.Step.{Step}
-use Rattle.tq_core.specs.declared.answer.Step.TheVariants as steps
-use Rattle.tq_core.specs.declared.citation.Citation.{Citation}
-use Rattle.tq_core.specs.World.{item_at, empty_world, node_at, desk_at, view_at}
+use Rattle.tq_core.specs.{declared.citation.Citation.Citation, World.{item_at, empty_world, node_at, desk_at, view_at}}
 use Rattle.tq_core.specs.Founded.{unfounded_in_node_ask, unfounded_in_desk_ask}
+use Rattle.tq_core.specs.declared.answer.Reply.TheVariants as replies
+use Rattle.tq_core.specs.declared.answer.Step.TheVariants as steps
 
 -- ---- what a step is refused for
 

@@ -1,9 +1,7 @@
 //! The entry of a number, and tests of what it says: that it is what a citation has it to be.
 
-ghost use Rattle.std.specs.Prelude.{◌≡◌, ◌==◌, ◌&&◌};
-ghost use Rattle.std.specs.Cmp.Lexicographic.{pointwise};
+ghost use Rattle.std.specs.{Prelude.{◌≡◌, ◌==◌, ◌&&◌}, Cmp.Lexicographic.pointwise, Option.option_copied};
 ghost use Rattle.tq_core.specs.Founded as spec;
-ghost use Rattle.std.specs.Option.{option_copied};
 ghost use Rattle.tq_core.specs.World as world;
 
 use tq_asks::{CitedVote, NodeAsk, NodeReply, Verdict, WorkAsk};

@@ -2,8 +2,7 @@
 
 ghost use Rattle.std.specs.Prelude.{◌≡◌, ◌+◌, ◌-◌, ◌^◌, IfOk, OnOk, OnErr, length};
 ghost use Rattle.std.specs.Option.{option_copied, option_map};
-ghost use Rattle.tq_tables.specs.Parts.{AreLegal};
-ghost use Rattle.tq_tables.specs.Tables.{tables_of};
+ghost use Rattle.tq_tables.specs.{Parts.AreLegal, Tables.tables_of};
 ghost use Rattle.tq_core.specs.Service as asks;
 
 use crate::{
@@ -26,8 +25,7 @@ pub struct Service {
 }
 
 impl Model for Service {
-    ghost use Rattle.tq_tables.specs.Journals.{JournalsView};
-    ghost use Rattle.tq_tables.specs.Tabled.{journals_of};
+    ghost use Rattle.tq_tables.specs.{Journals.JournalsView, Tabled.journals_of};
     ghost use Rattle.tq_core.specs.Service.{IsService};
 
     ghost Value = { JournalsView };

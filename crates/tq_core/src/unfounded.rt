@@ -1,6 +1,5 @@
 //! The first citation of an ask that is not founded. Each is one look-up in a journal.
-ghost use Rattle.std.specs.Prelude.{◌≡◌};
-ghost use Rattle.std.specs.Option.{option_copied};
+ghost use Rattle.std.specs.{Prelude.◌≡◌, Option.option_copied};
 ghost use Rattle.tq_tables.specs.Journals.{JournalsView};
 ghost use Rattle.tq_core.specs.World as world;
 ghost use Rattle.tq_core.specs.Founded as spec;

@@ -1,29 +1,19 @@
 -- A test of a set of servers, and what it says of the coterie. Marks of members, from the leaves up to the root.
 use Rattle.std.proofs.Common.{◌≡◌, ℕ, ◌-◌, ◌≤◌, Bool, true, false, cond, ◌||◌, List, [], ◌∷◌, Option, Some, None, nat_eq, eqb, refl, sym, ap, subst, ◌∙◌, ◌↔◌, arith, inl, inr, ◌+◌, ◌*◌, ◌/◌, ◌%◌, ◌^◌, ◌<◌, zero, suc, length, w64}
-use Rattle.std.specs.Cmp.{both_ways}
-use Rattle.std.specs.Cmp.Lexicographic.{nat_list_eq_equiv, same_text}
-use Rattle.std.specs.List.{Contains, find, list_any}
-use Rattle.std.specs.Option.{option_map}
 use Rattle.std.proofs.lemmas.Bool.{eqb-true, false≢true, or_right, cases_lt, cases_eq, eq-eqb, ne_eqb}
-use Rattle.std.proofs.lemmas.Map.Views.{list_any-from_Contains, Contains-from_any}
-use Rattle.tq_coterie.specs.Coterie.{coterie, has, is_quorum, numbers_of, servers_of, IsLeastOfBoth, IsMemberList}
-use Rattle.tq_shape.specs.ServerSet.{Ascends}
-use Rattle.tq_shape.specs.Tree.{Server, left_of, right_of, height_of}
-use Rattle.tq_coterie.proofs.Members.{members-meet}
-use Rattle.tq_coterie.proofs.Parts.{Ascends-member, part_of-leaf, part_of-fork}
-use Rattle.tq_coterie.proofs.Sets.{has-below, has-head}
-use Rattle.std.specs.Prelude.{bit_and, bit_or, min, slice_index, slice_set, ◌==◌}
-use Rattle.std.specs.Int.{bit_at}
-use Rattle.std.specs.Int.Bits.{mask_lt}
-use Rattle.std.specs.Int.Count.{count_leading_zeros}
-use Rattle.std.proofs.Math.Pow.{pow_mono}
-use Rattle.std.proofs.lemmas.List.{get_or-set_same, get_or-set_other}
-use Rattle.std.proofs.lemmas.Nat.{leading_top}
+use Rattle.std.proofs.{lemmas.Map.Views.{list_any-from_Contains, Contains-from_any}, Math.Pow.pow_mono}
+use Rattle.std.proofs.lemmas.{List.{get_or-set_same, get_or-set_other}, Nat.leading_top}
 use Rattle.std.proofs.lemmas.Nat.Bits.{bit_at_above, bit_at_and, bit_at_ones, bit_at-zero, bit_at_set_same, bit_at_set_other}
-use Rattle.tq_shape.proofs.Tree.{height_of-side, height_of-leaf, right_within}
+use Rattle.std.specs.{Cmp.both_ways, Cmp.Lexicographic.{nat_list_eq_equiv, same_text}, List.{Contains, find, list_any}}
+use Rattle.std.specs.{Option.option_map, Prelude.{bit_and, bit_or, min, slice_index, slice_set, ◌==◌}, Int.bit_at}
+use Rattle.std.specs.Int.{Bits.mask_lt, Count.count_leading_zeros}
+use Rattle.tq_coterie.specs.Coterie.{coterie, has, is_quorum, numbers_of, servers_of, IsLeastOfBoth, IsMemberList}
 use Rattle.tq_coterie.specs.Parts.{part_of, part_from_sides, member_or_empty, is_marked, part_at, AreMarksOf, IsBare, IsRaised}
-use Rattle.tq_coterie.specs.declared.holding.Overlap.{Overlap}
-use Rattle.tq_coterie.specs.declared.holding.Overlap.TheVariants.{Empty, Member, Neither}
+use Rattle.tq_coterie.specs.declared.holding.{Overlap.Overlap, Overlap.TheVariants.{Empty, Member, Neither}}
+use Rattle.tq_shape.specs.{ServerSet.Ascends, Tree.{Server, left_of, right_of, height_of}}
+use Rattle.tq_coterie.proofs.{Members.members-meet, Parts.{Ascends-member, part_of-leaf, part_of-fork}}
+use Rattle.tq_coterie.proofs.Sets.{has-below, has-head}
+use Rattle.tq_shape.proofs.Tree.{height_of-side, height_of-leaf, right_within}
 
 -- an answer that says whether the numbers are a member is the test
 pub tested : (levels : ℕ) (numbers : List ℕ) (answer : Bool) → (answer ≡ true) ↔ Contains (coterie levels) numbers → answer ≡ is_quorum levels numbers

@@ -1,16 +1,14 @@
 -- The test by parts finds exactly the members.
 use Rattle.std.proofs.Common.{◌≡◌, ℕ, ◌-◌, ◌/◌, ◌^◌, ◌<◌, ◌≤◌, zero, suc, List, [], ◌∷◌, Bool, true, false, ◌||◌, ◌&&◌, cond, eqb, refl, sym, inl, inr, arith, ap, ◌∙◌, subst}
-use mathlib.Core.Bool.{and-false, and-or_distrib_right, or-false}
-use Rattle.std.specs.List.{All, Contains}
 use Rattle.std.proofs.lemmas.Bool.{cases_Bool, eqb-true, eq-eqb, or_cases, or_left, or_right, cases_lt, or_from, false≢true, false_from_ne_true}
 use Rattle.std.proofs.lemmas.List.Elements.{All-nil, All-cons, All-head, All-tail, All-contains}
-use Rattle.tq_shape.specs.Tree.{left_of, right_of, stands_in, IsServer, height_of}
+use mathlib.Core.Bool.{and-false, and-or_distrib_right, or-false}
+use Rattle.std.specs.List.{All, Contains}
+use Rattle.tq_shape.specs.{Tree.{left_of, right_of, stands_in, IsServer, height_of}, ServerSet.Ascends}
 use Rattle.tq_shape.proofs.Tree.{height_of-one, stands_in-server, server-stands_in, sides_apart, top_apart, stands_in-top, stands_in-left, stands_in-right}
 use Rattle.tq_coterie.specs.Coterie.{union_of, members, coterie, has, numbers_of, servers_of, IsMemberList}
-use Rattle.tq_coterie.specs.Parts.{part_from_sides, part_of}
-use Rattle.tq_coterie.specs.declared.holding.Overlap.{Overlap}
+use Rattle.tq_coterie.specs.{Parts.{part_from_sides, part_of}, declared.holding.Overlap.Overlap}
 use Rattle.tq_coterie.specs.declared.holding.Overlap.TheVariants.{Empty, Member, Neither}
-use Rattle.tq_shape.specs.ServerSet.{Ascends}
 use Rattle.tq_coterie.proofs.Sets.{has-below, has-head, Ascends-joined, joined-nil, same_set, has-joined}
 use Rattle.tq_coterie.proofs.Members.{IsSetOf, IsSetOf-leaf, IsSetOf-left, IsSetOf-right, IsSetOf-both, sides_members_apart, top_or, members-all, member-set, Contains-leaf, Contains-with_left, Contains-with_right, Contains-both}
 

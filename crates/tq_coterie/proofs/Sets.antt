@@ -1,15 +1,12 @@
 -- Sets of servers as ascending lists. A set of servers holds no member exactly if its complement holds one. Servers of
 -- one tree are the same exactly if their numbers are.
 use Rattle.std.proofs.Common.{◌≡◌, ℕ, ◌+◌, ◌<◌, ◌≤◌, List, [], ◌∷◌, Bool, true, false, ◌||◌, ◌&&◌, eqb, refl, sym, inl, inr, arith, ap, ◌∙◌, subst, sum_by, zero, suc, ◌++◌, map, not, nat_eq}
-use mathlib.Core.Bool.{and_assoc, and_comm, or_assoc, or_comm, and-false, and-true, and-or_distrib_left, and-or_distrib_right, not-not, or-false}
 use Rattle.std.proofs.lemmas.Bool.{cases_lt, cases_order, cases_Bool, lt-ltb, le-ltb, eq-eqb, ne_eqb, eqb-true, eqb-false, false≢true, or_parts, or_left, or_right, or_from}
-use Rattle.std.proofs.lemmas.List.Sums.{sum_by-cons}
-use Rattle.std.specs.List.{list_all}
+use Rattle.std.proofs.lemmas.List.{Sums.sum_by-cons, Folds.list_any-append}
+use mathlib.Core.Bool.{and_assoc, and_comm, or_assoc, or_comm, and-false, and-true, and-or_distrib_left, and-or_distrib_right, not-not, or-false}
+use Rattle.std.specs.{List.list_all, Cmp.Lexicographic.pointwise}
 use Rattle.tq_coterie.specs.Coterie.{with_server, union_of, has, joined_pairs, members, holds_member, two_of, servers_of, numbers_of, is_same}
-use Rattle.tq_shape.specs.ServerSet.{Ascends}
-use Rattle.std.proofs.lemmas.List.Folds.{list_any-append}
-use Rattle.tq_shape.specs.Tree.{left_of, right_of, Server}
-use Rattle.std.specs.Cmp.Lexicographic.{pointwise}
+use Rattle.tq_shape.specs.{ServerSet.Ascends, Tree.{left_of, right_of, Server}}
 
 or_swap : (a b c : Bool) → (a || (b || c)) ≡ (b || (a || c))
 or_swap a b c = sym (or_assoc a b c) ∙ (ap (λ x. x || c) (or_comm a b) ∙ or_assoc b a c)

@@ -1,8 +1,6 @@
 -- The coterie of a tree: which sets of servers are quorums, and in which order they are listed.
 use Rattle.std.specs.Prelude.{ℕ, ◌-◌, ◌≤◌, zero, suc, ◌≡◌, Bool, true, not, Option, ◌==◌, ◌&&◌, ◌||◌, nat_eq, nat_lt, cond, List, [], ◌∷◌, ◌++◌, map}
-use Rattle.std.specs.Cmp.Lexicographic.{pointwise}
-use Rattle.std.specs.List.{find, flat_map, list_any, list_all, Contains}
-use Rattle.std.specs.Option.{SomeIff}
+use Rattle.std.specs.{Cmp.Lexicographic.pointwise, List.{find, flat_map, list_any, list_all, Contains}, Option.SomeIff}
 use Rattle.tq_shape.specs.Tree.{Server, left_of, right_of, height_at}
 
 -- A set of servers is the ascending list of their numbers.

@@ -2,8 +2,8 @@
 
 ghost use Rattle.std.specs.Prelude.{◌≡◌, not};
 ghost use Rattle.tq_coterie.specs.Coterie.{complement_of, has, holds_member, members_under};
-ghost use Rattle.tq_coterie.specs.Coterie as spec;
 ghost use Rattle.tq_coterie.specs.Parts.{part_from_sides, member_or_empty};
+ghost use Rattle.tq_coterie.specs.Coterie as spec;
 
 use tq_shape::{Levels, ServerId};
 

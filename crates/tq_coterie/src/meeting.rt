@@ -1,7 +1,6 @@
 //! Where two quorums meet.
 
-ghost use Rattle.std.specs.Prelude.{◌≡◌, ◌==◌};
-ghost use Rattle.std.specs.List.{list_any};
+ghost use Rattle.std.specs.{Prelude.{◌≡◌, ◌==◌}, List.list_any};
 ghost use Rattle.tq_coterie.specs.Coterie.{AnyTwoMeet, IsLeastOfBoth, first_common};
 
 use crate::Quorum;

@@ -1,9 +1,8 @@
 //! Quorums and blockers: one type by its role.
 
 ghost use Rattle.std.specs.Prelude.{◌≡◌, IfOk, OnSome, All};
-ghost use Rattle.tq_shape.specs.Tree.{IsServer};
+ghost use Rattle.tq_shape.specs.{Tree.IsServer, ServerSet.Ascends};
 ghost use Rattle.tq_coterie.specs.Coterie.{AnswersMember, IsMemberList, is_same, list_of, numbers_of, servers_of};
-ghost use Rattle.tq_shape.specs.ServerSet.{Ascends};
 
 use crate::membership::is_member;
 use smallvec::SmallVec;

@@ -1,9 +1,8 @@
 //! Whether numbers are the servers of a quorum or of a blocker.
 
 ghost use Rattle.std.specs.Prelude.{◌<◌, ◌^◌, ◌≡◌, ◌↔◌, IsTrue, Contains, All};
-ghost use Rattle.tq_shape.specs.Tree.{IsServer};
+ghost use Rattle.tq_shape.specs.{Tree.IsServer, ServerSet.Ascends};
 ghost use Rattle.tq_coterie.specs.Coterie.{coterie};
-ghost use Rattle.tq_shape.specs.ServerSet.{Ascends};
 ghost use Rattle.tq_coterie.specs.Coterie as spec;
 
 use crate::holding::Overlap;

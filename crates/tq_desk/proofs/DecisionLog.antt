@@ -1,26 +1,20 @@
 -- What a refusal, or none, says of the desk. What a desk keeps, after a legal journal, is what the journal says.
-use Rattle.std.specs.Prelude.{not, nat_lt, nat_le, ◌&&◌}
+use Rattle.std.specs.{Prelude.{not, nat_lt, nat_le, ◌&&◌}, Cmp.{nat_cmp_total, unsigned_ties}, Ordering.nat_cmp}
 use Rattle.std.proofs.Common.{◌≡◌, ℕ, Bool, true, false, List, length, Option, Some, None, ◌+◌, ◌++◌, cond, nat_eq, [], ◌∷◌, refl, sym, ap, subst, ◌∙◌, arith}
+use Rattle.std.proofs.lemmas.Bool.{eqb-true}
 use Rattle.std.specs.FinMap as fin
 use Rattle.tq_asks.specs.declared.ask.Verdict.{Verdict}
 use Rattle.tq_desk.specs.declared.ask.DeskAsk.TheVariants as asks
-use Rattle.tq_desk.specs.declared.ask.DeskRefusal.{DeskRefusal}
-use Rattle.tq_desk.specs.declared.ask.DeskRefusal.TheVariants as refusals
-use Rattle.tq_evidence.specs.declared.op.Op.{Op}
-use Rattle.tq_evidence.specs.declared.vote.Vote.{Vote}
-use Rattle.tq_evidence.specs.Evidence.{failed_rule, IsGood}
+use Rattle.tq_desk.specs.declared.ask.{DeskRefusal.DeskRefusal, DeskAsk.DeskAsk, DeskReply.DeskReply}
 use Rattle.tq_desk.specs.DeskStep.{DeskView, is_begun, with_files, desk_refusal, Finals, cited_votes, desk_after, desk_answer, desk_answered, desk_reply, final_or_abort, reply_at, finals_after_resolve}
-use Rattle.tq_shape.specs.Journal.{refuse, refuse_for, state_at, or_else, refuse-none, refuse_for-none, entry}
-use Rattle.tq_shape.proofs.Places.{Some-same}
-use Rattle.std.specs.Cmp.{nat_cmp_total, unsigned_ties}
-use Rattle.std.specs.Ordering.{nat_cmp}
-use Rattle.std.proofs.lemmas.Bool.{eqb-true}
-use Rattle.tq_asks.specs.declared.ask.Verdict.TheVariants as verdicts
-use Rattle.tq_desk.specs.declared.ask.DeskAsk.{DeskAsk}
-use Rattle.tq_desk.specs.declared.ask.DeskReply.{DeskReply}
-use Rattle.tq_desk.specs.declared.ask.DeskReply.TheVariants as replies
 use Rattle.tq_desk.specs.DeskJournal.{DeskBounds, DeskEntry, desk_state, ending_of, final, IsLegalDesk}
 use Rattle.tq_desk.specs.DecisionLog.{AnswersByLog, EndsStay, IsDecisionLog, Keeps, log_reply}
+use Rattle.tq_desk.specs.declared.ask.DeskRefusal.TheVariants as refusals
+use Rattle.tq_evidence.specs.{declared.op.Op.Op, declared.vote.Vote.Vote, Evidence.{failed_rule, IsGood}}
+use Rattle.tq_shape.specs.Journal.{refuse, refuse_for, state_at, or_else, refuse-none, refuse_for-none, entry}
+use Rattle.tq_shape.proofs.Places.{Some-same}
+use Rattle.tq_asks.specs.declared.ask.Verdict.TheVariants as verdicts
+use Rattle.tq_desk.specs.declared.ask.DeskReply.TheVariants as replies
 
 pub refuse-other : (b : Bool) (r s : DeskRefusal) (next : Option DeskRefusal) → (r ≡ s → ⊥) → refuse b r next ≡ Some s → next ≡ Some s
 refuse-other true r s next ne h = absurd (ne (Some-same h))

@@ -1,24 +1,16 @@
 -- What good evidence shows, rule by rule.
-use Rattle.std.specs.Prelude.{◌==◌, ◌&&◌, ◌||◌, nat_le, not}
+use Rattle.std.specs.{Prelude.{◌==◌, ◌&&◌, ◌||◌, nat_le, not}, List.{filter, list_any, list_all}}
+use Rattle.std.specs.{Cmp.Lexicographic.pointwise, Ordering.{is_lt, is_gt, is_eq, ordering_reverse}}
+use Rattle.std.specs.declared.cmp.{Ordering.Ordering, Ordering.TheVariants.{Less, Equal, Greater}}
 use Rattle.std.proofs.Common.{◌≡◌, ℕ, suc, ◌≤◌, ◌+◌, max, Bool, true, false, List, [], ◌∷◌, Option, Some, None, refl, sym, ap, subst, ◌∙◌, ◌⊎◌, inl, inr, arith, fold}
-use Rattle.std.specs.List.{filter, list_any, list_all}
-use Rattle.std.specs.Cmp.Lexicographic.{pointwise}
-use Rattle.std.specs.Ordering.{is_lt, is_gt, is_eq, ordering_reverse}
-use Rattle.std.specs.declared.cmp.Ordering.{Ordering}
-use Rattle.std.specs.declared.cmp.Ordering.TheVariants.{Less, Equal, Greater}
 use Rattle.std.proofs.lemmas.Cmp.{upto, tied_itself, nat_list_cmp_total}
 use Rattle.std.proofs.lemmas.Bool.{and_parts, eq-eqb, eqb-true, leb-true, cond-true, cond-false, false≢true, true≢false, cases_lt}
 use Rattle.tq_shape.specs.Journal.{Has}
-use Rattle.tq_store.specs.Copies.{name_cmp}
-use Rattle.tq_store.specs.declared.write.Write.{Write as FileWrite}
+use Rattle.tq_store.specs.{Copies.name_cmp, declared.write.Write.Write as FileWrite, Names.same_name}
 use Rattle.tq_coterie.specs.Coterie.{is_quorum}
 use Rattle.tq_asks.specs.declared.ask.HeldLock.{HeldLock}
-use Rattle.tq_evidence.specs.declared.grant.Grant.{Grant}
-use Rattle.tq_evidence.specs.declared.op.Op.{Op}
-use Rattle.tq_evidence.specs.declared.rule.Rule.{Rule}
-use Rattle.tq_evidence.specs.declared.vote.Vote.{Vote}
+use Rattle.tq_evidence.specs.declared.{grant.Grant.Grant, op.Op.Op, rule.Rule.Rule, vote.Vote.Vote}
 use Rattle.tq_evidence.specs.Evidence.{is_write, servers_of, has_server, rises, are_quorums, are_exclusive, covers, are_covered, place_of, put_op, writes_by_file, is_write_of, are_writes_at, have_writes, greatest, stands_before, ops_rise, reads_copy, has_version, have_versions, rule_unless, IsGood}
-use Rattle.tq_store.specs.Names.{same_name}
 use Rattle.tq_evidence.specs.Evidence as evidence
 use Rattle.tq_desk.specs.DeskJournal.{HasTop, IsCovered, IsShown}
 use Rattle.tq_evidence.proofs.HeldTable.{Has-put, put-Has}

@@ -1,19 +1,17 @@
 -- The decision log: what the desk answers, read off its journal alone, and what it keeps.
 use Rattle.std.specs.Prelude.{◌≡◌, ◌+◌, ◌&&◌, ◌++◌, ℕ, Bool, not, nat_lt, nat_le, List, [], ◌∷◌, length, Option, Some, None, is_some}
-use Rattle.std.specs.FinMap as fin
 use Rattle.std.specs.List.{list_any}
+use Rattle.std.specs.FinMap as fin
 use Rattle.tq_shape.specs.Journal.{entry, refuse, refuse_for}
 use Rattle.tq_asks.specs.declared.ask.Verdict.{Verdict as Final}
-use Rattle.tq_desk.specs.declared.ask.DeskAsk.{DeskAsk}
-use Rattle.tq_desk.specs.declared.ask.DeskAsk.TheVariants.{Begin, Commit, Resolve}
-use Rattle.tq_desk.specs.declared.ask.DeskRefusal.{DeskRefusal}
+use Rattle.tq_desk.specs.declared.ask.{DeskAsk.DeskAsk, DeskAsk.TheVariants.{Begin, Commit, Resolve}}
+use Rattle.tq_desk.specs.declared.ask.{DeskRefusal.DeskRefusal, DeskReply.DeskReply}
 use Rattle.tq_desk.specs.declared.ask.DeskRefusal.TheVariants.{NoSuchTxn, Decided, TooManyOps, BadEvidence, TooManyFiles}
-use Rattle.tq_desk.specs.declared.ask.DeskReply.{DeskReply}
 use Rattle.tq_desk.specs.declared.ask.DeskReply.TheVariants.{Txn, Verdict, Committed}
-use Rattle.tq_evidence.specs.Evidence.{failed_rule, writes_file}
 use Rattle.tq_desk.specs.DeskStep.{DeskView, final_or_abort, reply_at, with_files}
-use Rattle.tq_desk.specs.DeskJournal as log
 use Rattle.tq_desk.specs.DeskJournal.{DeskBounds, DeskEntry, begin_count, commits, desk_state, final, IsLegalDesk, written_files}
+use Rattle.tq_evidence.specs.Evidence.{failed_rule, writes_file}
+use Rattle.tq_desk.specs.DeskJournal as log
 
 -- some commit has a write of the file
 abbrev pub is_written : List log.Commit → List ℕ → Bool

@@ -1,28 +1,21 @@
 -- The journal of the desk, newest entry first: what is legal, and what its entries say. What good evidence shows, and
 -- the laws of the desk's journal. What contracts see of the parts of a desk, and their codes.
 use Rattle.std.specs.Prelude.{◌≡◌, ◌+◌, ◌==◌, ◌⊎◌, ℕ, suc, true, cond, List, [], ◌∷◌, Option, Some, None, if◌then◌else◌, ◌≤◌, Bool, false, refl}
+use Rattle.std.specs.{List.find, Coded.{Coded, code_by, coded×, coded_list, coded_ℕ}}
 use Rattle.std.specs.FinMap as fin
-use Rattle.std.specs.List.{find}
-use Rattle.tq_shape.specs.Journal.{entry_at, Has, IsLegal, state_after, or_else}
-use Rattle.tq_shape.specs.Limits.{LimitsView}
+use Rattle.tq_shape.specs.{Journal.{entry_at, Has, IsLegal, state_after, or_else}, Limits.LimitsView}
 use Rattle.tq_shape.specs.declared.part.Entry.{Entry}
-use Rattle.tq_asks.specs.declared.ask.Verdict.{Verdict}
+use Rattle.tq_asks.specs.{declared.ask.Verdict.Verdict, declared.ask.HeldLock.HeldLock, Verdicts.cites_vote}
 use Rattle.tq_asks.specs.declared.ask.Verdict.TheVariants as verdicts
-use Rattle.tq_desk.specs.declared.ask.DeskAsk.{DeskAsk}
+use Rattle.tq_desk.specs.declared.ask.{DeskAsk.DeskAsk, DeskReply.DeskReply}
+use Rattle.tq_desk.specs.DeskStep.{DeskView, FileSet, cited_votes, desk_after, desk_reply, opening_desk, with_files, Finals}
 use Rattle.tq_desk.specs.declared.ask.DeskAsk.TheVariants as asks
 use Rattle.tq_desk.specs.declared.ask.DeskRefusal.TheVariants as refusals
-use Rattle.tq_desk.specs.declared.ask.DeskReply.{DeskReply}
 use Rattle.tq_desk.specs.declared.ask.DeskReply.TheVariants as replies
-use Rattle.tq_evidence.specs.declared.op.Op.{Op}
-use Rattle.tq_evidence.specs.declared.vote.Vote.{Vote}
-use Rattle.tq_evidence.specs.Evidence.{is_write, writes_file, servers_of}
-use Rattle.tq_desk.specs.DeskStep.{DeskView, FileSet, cited_votes, desk_after, desk_reply, opening_desk, with_files, Finals}
+use Rattle.tq_evidence.specs.{declared.op.Op.Op, declared.vote.Vote.Vote, Evidence.{is_write, writes_file, servers_of}}
+use Rattle.tq_evidence.specs.declared.grant.Grant.{Grant}
 use Rattle.tq_coterie.specs.Coterie.{is_quorum}
 use Rattle.tq_store.specs.declared.write.Write.{Write}
-use Rattle.tq_asks.specs.declared.ask.HeldLock.{HeldLock}
-use Rattle.tq_asks.specs.Verdicts.{cites_vote}
-use Rattle.tq_evidence.specs.declared.grant.Grant.{Grant}
-use Rattle.std.specs.Coded.{Coded, code_by, coded×, coded_list, coded_ℕ}
 use Rattle.std.specs.FinSet as set
 
 -- what bounds a desk: the levels of its tree and its limits

@@ -2,24 +2,17 @@
 -- its asks do; its settings stay, and at most one transaction begins.
 use Rattle.std.specs.Prelude.{◌≡◌, ℕ, ◌+◌, List, Option, Some, None, map, filter, fold, not}
 use Rattle.std.specs.FinMap as fin
-use Rattle.tq_asks.specs.declared.ask.CitedVote.{CitedVote}
-use Rattle.tq_asks.specs.declared.ask.Verdict.{Verdict}
+use Rattle.tq_asks.specs.declared.ask.{CitedVote.CitedVote, Verdict.Verdict}
 use Rattle.tq_asks.specs.declared.ask.Verdict.TheVariants as verdicts
-use Rattle.tq_desk.specs.declared.ask.DeskAsk.{DeskAsk}
-use Rattle.tq_desk.specs.declared.ask.DeskAsk.TheVariants as asks
-use Rattle.tq_desk.specs.declared.ask.DeskRefusal.{DeskRefusal}
-use Rattle.tq_desk.specs.declared.ask.DeskReply.{DeskReply}
-use Rattle.tq_shape.specs.declared.answers.Plan.{Plan}
-use Rattle.tq_evidence.specs.declared.op.Op.{Op}
-use Rattle.tq_desk.specs.declared.desk.DeskChange.{DeskChange}
-use Rattle.tq_desk.specs.declared.desk.DeskChange.TheVariants.{Nothing, Begin, Abort, Commit}
-use Rattle.tq_evidence.specs.Evidence.{is_write}
+use Rattle.tq_desk.specs.declared.ask.{DeskAsk.DeskAsk, DeskRefusal.DeskRefusal, DeskReply.DeskReply}
+use Rattle.tq_desk.specs.declared.desk.{DeskChange.DeskChange, DeskChange.TheVariants.{Nothing, Begin, Abort, Commit}}
 use Rattle.tq_desk.specs.DeskStep.{DeskView, FileSet, desk_after_abort, cited_votes, desk_refusal, desk_reply, with_file, desk_after_commit, desk_after, desk_answered, is_begun, opening_desk, finals_after_resolve, with_files}
-use Rattle.std.proofs.Common.{◌≤◌, ◌<◌, [], ◌∷◌, refl, ap, arith}
-use Rattle.tq_shape.specs.Limits.{LimitsView}
-use Rattle.tq_desk.specs.declared.ask.DeskRefusal.TheVariants as refusals
-use Rattle.tq_evidence.specs.declared.vote.Vote.{Vote}
+use Rattle.tq_desk.specs.declared.ask.DeskAsk.TheVariants as asks
+use Rattle.tq_shape.specs.{declared.answers.Plan.Plan, Limits.LimitsView}
 use Rattle.tq_shape.specs.Journal.{state_at, refuse-none, refuse_for-none}
+use Rattle.tq_evidence.specs.{declared.op.Op.Op, Evidence.is_write, declared.vote.Vote.Vote}
+use Rattle.std.proofs.Common.{◌≤◌, ◌<◌, [], ◌∷◌, refl, ap, arith}
+use Rattle.tq_desk.specs.declared.ask.DeskRefusal.TheVariants as refusals
 
 -- the files that the ops write, one after another
 abbrev pub names_written : List Op → List (List ℕ)

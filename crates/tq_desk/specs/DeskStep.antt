@@ -1,22 +1,17 @@
 -- The step of the desk: what it has recorded, what it answers, and what it has recorded afterwards.
 use Rattle.std.specs.Prelude.{◌+◌, ℕ, Bool, not, ◌&&◌, nat_lt, nat_le, List, map, filter, fold, length, Option, Some, None, is_some}
-use Rattle.std.specs.FinMap as fin
 use Rattle.std.specs.Ordering.{nat_cmp}
-use Rattle.tq_shape.specs.Limits.{LimitsView}
+use Rattle.std.specs.FinMap as fin
+use Rattle.tq_shape.specs.{Limits.LimitsView, Journal.{refuse, refuse_for, state_at}}
 use Rattle.tq_store.specs.Copies.{name_cmp}
 use Rattle.tq_asks.specs.declared.ask.CitedVote.{CitedVote}
 use Rattle.tq_asks.specs.declared.ask.Verdict as verdict
 use Rattle.tq_asks.specs.declared.ask.Verdict.TheVariants as verdicts
-use Rattle.tq_desk.specs.declared.ask.DeskAsk.{DeskAsk}
-use Rattle.tq_desk.specs.declared.ask.DeskAsk.TheVariants.{Begin, Commit, Resolve}
-use Rattle.tq_desk.specs.declared.ask.DeskRefusal.{DeskRefusal}
+use Rattle.tq_desk.specs.declared.ask.{DeskAsk.DeskAsk, DeskAsk.TheVariants.{Begin, Commit, Resolve}}
+use Rattle.tq_desk.specs.declared.ask.{DeskRefusal.DeskRefusal, DeskReply.DeskReply}
 use Rattle.tq_desk.specs.declared.ask.DeskRefusal.TheVariants.{NoSuchTxn, Decided, TooManyOps, BadEvidence, TooManyFiles}
-use Rattle.tq_desk.specs.declared.ask.DeskReply.{DeskReply}
 use Rattle.tq_desk.specs.declared.ask.DeskReply.TheVariants.{Txn, Verdict, Committed, Refused}
-use Rattle.tq_evidence.specs.declared.op.Op.{Op}
-use Rattle.tq_evidence.specs.declared.vote.Vote.{Vote}
-use Rattle.tq_evidence.specs.Evidence.{failed_rule, is_write, IsGood}
-use Rattle.tq_shape.specs.Journal.{refuse, refuse_for, state_at}
+use Rattle.tq_evidence.specs.{declared.op.Op.Op, declared.vote.Vote.Vote, Evidence.{failed_rule, is_write, IsGood}}
 
 -- how each transaction ended that has
 abbrev pub Finals : Type 0

@@ -1,10 +1,8 @@
 //! The desk, by plan and change: what an ask changes.
 
-ghost use Rattle.std.specs.Prelude.{◌≡◌, ◌+◌, ◌<◌, ◌^◌, IfOk, OnOk, OnErr, None, [], true};
+ghost use Rattle.std.specs.{Prelude.{◌≡◌, ◌+◌, ◌<◌, ◌^◌, IfOk, OnOk, OnErr, None, [], true}, Option.option_copied};
 ghost use Rattle.std.specs.FinMap as fin;
-ghost use Rattle.std.specs.Option.{option_copied};
-ghost use Rattle.tq_desk.specs.DeskJournal.{desk_state};
-ghost use Rattle.tq_desk.specs.DecisionLog.{AnswersByLogs, BeginsByLog, EndsByLog};
+ghost use Rattle.tq_desk.specs.{DeskJournal.desk_state, DecisionLog.{AnswersByLogs, BeginsByLog, EndsByLog}};
 ghost use Rattle.tq_desk.specs.DeskPlans.{desk_change, desk_changed, with_commit, DeskFits, IsDeskPlan};
 ghost use Rattle.tq_evidence.specs.Evidence.{ops_rise};
 ghost use Rattle.tq_desk.specs.DeskStep as spec;
@@ -32,8 +30,7 @@ pub struct Desk {
 impl Model for Desk {
     ghost use Rattle.std.specs.Prelude.{◌≤◌};
     ghost use Rattle.std.specs.FinMap as map;
-    ghost use Rattle.tq_desk.specs.DeskStep.{DeskView};
-    ghost use Rattle.tq_desk.specs.DeskJournal.{desk_code};
+    ghost use Rattle.tq_desk.specs.{DeskStep.DeskView, DeskJournal.desk_code};
     ghost use Rattle.tq_asks.specs.contracts.ask.Verdict as verdict_type;
 
     ghost Value = { DeskView };

@@ -1,8 +1,7 @@
 //! How transactions ended.
 
-ghost use Rattle.std.specs.Prelude.{◌≡◌, ◌+◌, ◌<◌, ◌≤◌, IfOk, OnOk};
+ghost use Rattle.std.specs.{Prelude.{◌≡◌, ◌+◌, ◌<◌, ◌≤◌, IfOk, OnOk}, Option.option_copied};
 ghost use Rattle.std.specs.FinMap as fin;
-ghost use Rattle.std.specs.Option.{option_copied};
 
 use indexmap::IndexMap;
 use std::alloc::Global;

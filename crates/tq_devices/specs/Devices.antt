@@ -1,8 +1,7 @@
 -- What is known of devices. What is known where a call over devices ends by a fault.
 use Rattle.std.specs.Prelude.{◌≡◌, ℕ, ◌+◌, Bool, false, List, [], ◌++◌, Option, Result, Ok, Err, take}
 use Rattle.std.specs.Io.KnownBytes.{Appends, Consumes}
-use Rattle.tq_devices.specs.declared.fault.RunFault.{RunFault}
-use Rattle.tq_devices.specs.declared.fault.RunFault.TheVariants.{Memory, Read, Write, TooLong}
+use Rattle.tq_devices.specs.declared.fault.{RunFault.RunFault, RunFault.TheVariants.{Memory, Read, Write, TooLong}}
 
 -- a call that failed raises the count by one, and no other changes it
 abbrev pub Counts : {T E : Type 0} → Result T E → ℕ → ℕ → Type 0

@@ -1,7 +1,6 @@
 //! Sources and sinks over `std::io`.
 
-ghost use Rattle.std.specs.Prelude.{◌≡◌, ◌<◌, ◌≤◌, IfSome, IsNone, length};
-ghost use Rattle.std.specs.Io.KnownBytes.{IsAtEnd, Keeps};
+ghost use Rattle.std.specs.{Prelude.{◌≡◌, ◌<◌, ◌≤◌, IfSome, IsNone, length}, Io.KnownBytes.{IsAtEnd, Keeps}};
 ghost use Rattle.tq_devices.specs.Devices.{AppendsFront, ConsumesFront};
 
 use crate::device::{Failed, Sink, Source};

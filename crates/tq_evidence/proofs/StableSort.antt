@@ -1,21 +1,14 @@
 -- Ops put in order by file, also behind references. A stable sort of ops by file, behind references, is the insertion
 -- of each after those of its file.
 use Rattle.std.proofs.Common.{◌≡◌, ℕ, ◌+◌, Bool, not, cond, List, [], ◌∷◌, ◌++◌, Some, None, map, take, drop, nat_lt, refl, sym, ap, ◌∙◌, suc, ◌<◌, true, false, filter, fold, length, get_or, arith, subst, ◌⊎◌, inl, inr, append_assoc}
-use Rattle.std.specs.List.{insert, prefix_len}
-use Rattle.std.specs.Option.{unwrap_or}
-use Rattle.std.specs.Ordering.{is_gt, is_lt, ordering_reverse}
-use Rattle.std.proofs.lemmas.List.{map-append, take-map, drop-map, length-map, append-nil}
-use Rattle.tq_store.specs.Copies.{name_cmp}
-use Rattle.tq_evidence.specs.declared.op.Op.{Op}
-use Rattle.tq_evidence.specs.Evidence.{place_among, place_of, put_op}
-use Rattle.std.specs.Prelude.{◌&&◌, ◌≤◌}
-use Rattle.std.specs.List.Sorted.{IsSortedByKey, IsStableByKey}
-use Rattle.std.specs.declared.cmp.Ordering.{Ordering}
-use Rattle.std.specs.declared.cmp.Ordering.TheVariants.{Less, Equal, Greater}
-use Rattle.std.proofs.lemmas.Bool.{and_parts, true≢false}
-use Rattle.std.proofs.lemmas.Cmp.{upto, tied_itself, nat_list_cmp_total}
+use Rattle.std.proofs.lemmas.{List.{map-append, take-map, drop-map, length-map, append-nil}, Bool.Decides.nat_tests}
+use Rattle.std.proofs.lemmas.{Bool.{and_parts, true≢false}, Cmp.{upto, tied_itself, nat_list_cmp_total}}
 use Rattle.std.proofs.lemmas.List.Sorted.{ranks_by, sorted_far}
-use Rattle.std.proofs.lemmas.Bool.Decides.{nat_tests}
+use Rattle.std.specs.{List.{insert, prefix_len}, Option.unwrap_or, Ordering.{is_gt, is_lt, ordering_reverse}}
+use Rattle.std.specs.{Prelude.{◌&&◌, ◌≤◌}, List.Sorted.{IsSortedByKey, IsStableByKey}, declared.cmp.Ordering.Ordering}
+use Rattle.std.specs.declared.cmp.Ordering.TheVariants.{Less, Equal, Greater}
+use Rattle.tq_store.specs.Copies.{name_cmp}
+use Rattle.tq_evidence.specs.{declared.op.Op.Op, Evidence.{place_among, place_of, put_op}}
 use Rattle.tq_shape.specs.Journal.{Has}
 use Rattle.tq_shape.proofs.Places.{Has-filter}
 

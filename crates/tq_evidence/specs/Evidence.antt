@@ -3,23 +3,15 @@
 -- and so do the votes. The locks that a vote lists, put in a table by file: for each file the least number that it is
 -- held since.
 use Rattle.std.specs.Prelude.{ℕ, ◌==◌, cond, Option, Some, None, ◌≡◌, ◌+◌, Bool, true, false, not, ◌&&◌, ◌||◌, nat_lt, nat_le, max, List, [], ◌∷◌, map, filter, fold, length, position, if◌then◌else◌, min}
-use Rattle.tq_evidence.specs.declared.rule.Rule.{Rule}
+use Rattle.std.specs.{Cmp.Lexicographic.pointwise, List.{list_any, list_all, find, insert}, Option.unwrap_or}
+use Rattle.std.specs.{Ordering.{is_lt, is_gt, is_eq}, Coded.{Coded, coded_list, coded_ℕ}}
+use Rattle.tq_evidence.specs.declared.{rule.Rule.Rule, grant.Grant.Grant, op.Op.Op, op.OpKind.TheVariants.{Read, Write}}
 use Rattle.tq_evidence.specs.declared.rule.Rule.TheVariants.{Quorum, Exclusive, Covered, Writes, Versions, SomeOp}
-use Rattle.std.specs.Cmp.Lexicographic.{pointwise}
-use Rattle.std.specs.List.{list_any, list_all, find, insert}
-use Rattle.std.specs.Option.{unwrap_or}
-use Rattle.std.specs.Ordering.{is_lt, is_gt, is_eq}
-use Rattle.tq_store.specs.Copies.{name_cmp}
-use Rattle.tq_store.specs.declared.write.Write.{Write as FileWrite}
+use Rattle.tq_evidence.specs.declared.vote.Vote.{Vote}
+use Rattle.tq_store.specs.{Copies.name_cmp, declared.write.Write.Write as FileWrite, Names.same_name}
 use Rattle.tq_locks.specs.Locks.{is_exclusive}
 use Rattle.tq_coterie.specs.Coterie.{is_quorum}
-use Rattle.tq_evidence.specs.declared.grant.Grant.{Grant}
-use Rattle.tq_evidence.specs.declared.op.Op.{Op}
-use Rattle.tq_evidence.specs.declared.op.OpKind.TheVariants.{Read, Write}
 use Rattle.tq_evidence.specs.declared.rule.Rule.TheVariants as rules
-use Rattle.tq_evidence.specs.declared.vote.Vote.{Vote}
-use Rattle.tq_store.specs.Names.{same_name}
-use Rattle.std.specs.Coded.{Coded, coded_list, coded_ℕ}
 use Rattle.std.specs.FinMap as fin
 use Rattle.tq_asks.specs.declared.ask.HeldLock.{HeldLock}
 

@@ -1,7 +1,6 @@
 -- What contracts see of a list that is owned or shared.
 use Rattle.std.specs.Prelude.{List}
-use Rattle.tq_evidence.specs.declared.shareable.Form.{Form}
-use Rattle.tq_evidence.specs.declared.shareable.Form.TheVariants.{Owned, Shared}
+use Rattle.tq_evidence.specs.declared.shareable.{Form.Form, Form.TheVariants.{Owned, Shared}}
 
 -- the items, wherever they stand
 abbrev pub items_of : {T : Type 0} → Form T → List T

@@ -1,7 +1,6 @@
 //! A list of grants and its servers.
 
-ghost use Rattle.std.specs.Prelude.{◌≡◌, IfOk};
-ghost use Rattle.std.specs.Option.{option_copied};
+ghost use Rattle.std.specs.{Prelude.{◌≡◌, IfOk}, Option.option_copied};
 ghost use Rattle.tq_evidence.specs.Evidence as spec;
 
 use crate::Grant;

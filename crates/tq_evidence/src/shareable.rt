@@ -27,8 +27,7 @@ enum Form<T> {
 }
 
 impl<T> Model for Shareable<T> {
-    ghost use Rattle.std.specs.Prelude.{List};
-    ghost use Rattle.std.specs.Coded.{coded_list};
+    ghost use Rattle.std.specs.{Prelude.List, Coded.coded_list};
     ghost use Rattle.tq_evidence.specs.Shareable.{items_of};
 
     ghost Value = { List T };

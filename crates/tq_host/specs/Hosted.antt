@@ -1,12 +1,9 @@
 -- What a host did that starts from the lines of a log.
 use Rattle.std.specs.Prelude.{◌≡◌, ◌⊎◌, ℕ, List, [], ◌∷◌, ◌++◌, Option, Result, Ok, Err, codes, decimal}
 use Rattle.std.specs.Io.KnownBytes.{Appends}
-use Rattle.tq_shape.specs.declared.part.Entry.{Entry}
-use Rattle.tq_shape.specs.Agrees.{Standing}
-use Rattle.tq_host.specs.Lines.{BeginsWith, IsLogOf, IsReplayFault}
-use Rattle.tq_host.specs.Served.{IsServed}
-use Rattle.tq_host.specs.declared.fault.HostFault.{HostFault}
-use Rattle.tq_host.specs.declared.fault.ReplayFault.{ReplayFault}
+use Rattle.tq_shape.specs.{declared.part.Entry.Entry, Agrees.Standing}
+use Rattle.tq_host.specs.{Lines.{BeginsWith, IsLogOf, IsReplayFault}, Served.IsServed}
+use Rattle.tq_host.specs.declared.fault.{HostFault.HostFault, ReplayFault.ReplayFault}
 use Rattle.tq_host.specs.declared.fault.ReplayFault.TheVariants.{Memory, Wrong, Unreadable}
 
 -- the line that tells why the lines of a log lead to no part; where memory was refused, none

@@ -2,10 +2,8 @@
 -- part replies, what it is afterwards, and what its lines are read as stand first.
 use Rattle.std.specs.Prelude.{◌≡◌, ◌⊎◌, ℕ, List, [], ◌∷◌, ◌++◌, ⊤, ◌≢◌, ◌<◌, ◌≤◌, Option, Some, None, length}
 pub use Rattle.tq_board.specs.Lines.{HasNoFeed, IsLine}
-use Rattle.tq_shape.specs.declared.part.Entry.{Entry}
-use Rattle.tq_shape.specs.Agrees.{Standing, next_number, state_after_entry}
-use Rattle.tq_host.specs.declared.fault.ReplayFault.{ReplayFault}
-use Rattle.tq_host.specs.declared.fault.ReplayFault.TheVariants.{Memory, Wrong, Unreadable}
+use Rattle.tq_shape.specs.{declared.part.Entry.Entry, Agrees.{Standing, next_number, state_after_entry}}
+use Rattle.tq_host.specs.declared.fault.{ReplayFault.ReplayFault, ReplayFault.TheVariants.{Memory, Wrong, Unreadable}}
 
 -- the lines one behind another; in the list, as in those below, the newest stands first
 abbrev pub text_of : List (List ℕ) → List ℕ

@@ -1,11 +1,9 @@
 -- What a host did up to its end.
 use Rattle.std.specs.Prelude.{◌≡◌, ◌⊎◌, ◌<◌, ◌≤◌, ◌^◌, ⊤, ℕ, ◌+◌, List, ◌++◌, Option, Result, Ok, Err, length}
 use Rattle.std.specs.Io.KnownBytes.{Appends}
-use Rattle.tq_shape.specs.declared.part.Entry.{Entry}
-use Rattle.tq_shape.specs.Agrees.{Standing}
-use Rattle.tq_host.specs.Lines.{HasNoFeed, IsLogOf}
+use Rattle.tq_shape.specs.{declared.part.Entry.Entry, Agrees.Standing}
+use Rattle.tq_host.specs.{Lines.{HasNoFeed, IsLogOf}, declared.fault.HostFault.HostFault}
 use Rattle.tq_host.specs.Told.{Exchange, AreTold, asked_text, logged_text, answered_text, standing_after, Batched}
-use Rattle.tq_host.specs.declared.fault.HostFault.{HostFault}
 use Rattle.tq_host.specs.declared.fault.HostFault.TheVariants.{Memory, Read, Write, TooLong, Log}
 
 -- failures of the source, the sink and the log, before and after

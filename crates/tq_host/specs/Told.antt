@@ -1,10 +1,9 @@
 -- Lines that a host answered, and what each was told. A part with the text that did not go out yet, and what happens
 -- where it goes out.
 use Rattle.std.specs.Prelude.{◌≡◌, ◌<◌, ◌≤◌, ⊤, ℕ, List, [], ◌∷◌, ◌++◌, Option, Some, None, length, codes, ◌⊎◌}
-use Rattle.tq_shape.specs.declared.part.Entry.{Entry}
-use Rattle.tq_shape.specs.Agrees.{Standing, next_number, state_after_entry}
-use Rattle.tq_host.specs.Lines.{IsLine}
 use Rattle.std.specs.Io.KnownBytes.{Appends}
+use Rattle.tq_shape.specs.{declared.part.Entry.Entry, Agrees.{Standing, next_number, state_after_entry}}
+use Rattle.tq_host.specs.Lines.{IsLine}
 use Rattle.tq_devices.specs.Devices.{AppendsFront}
 
 -- an entry was made, or none: the line is no ask, the journal is full, or memory was refused

@@ -1,11 +1,9 @@
 //! A host from its start to its end.
 
-ghost use Rattle.std.specs.Prelude.{◌≡◌, ◌-◌, ◌^◌, ◌<◌, ◌++◌, ◌∷◌, [], ℕ, List, OnOk, OnErr};
-ghost use Rattle.std.specs.Fmt.{decimal};
+ghost use Rattle.std.specs.{Prelude.{◌≡◌, ◌-◌, ◌^◌, ◌<◌, ◌++◌, ◌∷◌, [], ℕ, List, OnOk, OnErr}, Fmt.decimal};
 ghost use Rattle.std.specs.Io.KnownBytes.{Appends};
 ghost use Rattle.tq_shape.specs.Agrees.{standing_part};
-ghost use Rattle.tq_host.specs.Hosted.{IsHosted, IsFaultTold, IsFront};
-ghost use Rattle.tq_host.specs.Served.{IsHostCount};
+ghost use Rattle.tq_host.specs.{Hosted.{IsHosted, IsFaultTold, IsFront}, Served.IsHostCount};
 
 use crate::fault::{HostFault, ReplayFault};
 use crate::log::Log;

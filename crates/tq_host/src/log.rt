@@ -1,7 +1,6 @@
 //! What keeps entries.
 
-ghost use Rattle.std.specs.Prelude.{◌≡◌, ◌-◌, ◌^◌, ◌<◌, ℕ, List, Option, OnOk, OnErr};
-ghost use Rattle.std.specs.Io.KnownBytes.{Appends};
+ghost use Rattle.std.specs.{Prelude.{◌≡◌, ◌-◌, ◌^◌, ◌<◌, ℕ, List, Option, OnOk, OnErr}, Io.KnownBytes.Appends};
 ghost use Rattle.tq_devices.specs.Devices.{AppendsFront, Counts};
 
 use tq_devices::Failed;

@@ -6,10 +6,8 @@ use tq_shape::{Answers, Entry, Memory};
 
 /// A part whose asks, entries and replies are read and written as lines.
 pub trait Wire: Answers {
-    ghost use Rattle.std.specs.Prelude.{◌≡◌, ◌↔◌, ℕ, List, Option, Some, IfOk, IsTrue};
-    ghost use Rattle.std.specs.String.{string_bytes};
-    ghost use Rattle.tq_shape.specs.declared.part.Entry.{Entry};
-    ghost use Rattle.tq_shape.specs.Journal.{entry};
+    ghost use Rattle.std.specs.{Prelude.{◌≡◌, ◌↔◌, ℕ, List, Option, Some, IfOk, IsTrue}, String.string_bytes};
+    ghost use Rattle.tq_shape.specs.{declared.part.Entry.Entry, Journal.entry};
     ghost use Rattle.tq_host.specs.Lines.{IsLine};
 
     /// The ask that a line is, or that it is none.

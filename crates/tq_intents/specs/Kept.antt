@@ -1,25 +1,16 @@
 -- What a list of stable records stands for: copies, open votes and their locks. The open votes by transaction, and
 -- what contracts see of a server's log. What changes in a server's log, and in the index of its open votes.
 use Rattle.std.specs.Prelude.{◌≡◌, ℕ, Bool, true, false, ◌&&◌, ◌==◌, ◌<◌, nat_lt, nat_le, max, ⊤, List, [], ◌∷◌, ◌++◌, map, filter, take, Option, Some, None, if◌then◌else◌, refl}
+use Rattle.std.specs.{List.{AllByRecursion, find, list_any, filter_map, flat_map}, Ordering.nat_cmp, BTreeMap.is_at}
+use Rattle.std.specs.{Option.{option_and_then, option_map, option_map_or}, List.Sorted.IsStrictlySortedBy, Global.Vec}
+use Rattle.std.specs.{Coded.{Coded, code_by, coded×, coded_list, coded_ℕ}, Map.{keys_of, lookup}}
 use Rattle.std.specs.FinMap as fin
-use Rattle.std.specs.List.{AllByRecursion, find, list_any, filter_map, flat_map}
-use Rattle.std.specs.Option.{option_and_then, option_map, option_map_or}
-use Rattle.std.specs.Ordering.{nat_cmp}
 use Rattle.tq_store.specs.Copies.{Files, copy_at, copy_in, copy_of, copies_after_install, installed_all, is_newer}
-use Rattle.tq_store.specs.declared.write.Write.{Write}
-use Rattle.tq_locks.specs.Locks.{Locks, LockKey}
-use Rattle.tq_locks.specs.declared.mode.Lock.{Lock}
-use Rattle.tq_intents.specs.declared.record.KeptLock.{KeptLock}
-use Rattle.tq_intents.specs.declared.record.OpenVote.{OpenVote}
-use Rattle.tq_intents.specs.declared.record.Record.{Record}
+use Rattle.tq_store.specs.{declared.write.Write.Write, Names.same_name}
+use Rattle.tq_locks.specs.{Locks.{Locks, LockKey}, declared.mode.Lock.Lock}
+use Rattle.tq_intents.specs.declared.record.{KeptLock.KeptLock, OpenVote.OpenVote, Record.Record}
 use Rattle.tq_intents.specs.declared.record.Record.TheVariants.{Copy, Intent, Keep, Prepared, Gone}
 use Rattle.tq_shape.specs.Journal.{Has}
-use Rattle.tq_store.specs.Names.{same_name}
-use Rattle.std.specs.Coded.{Coded, code_by, coded×, coded_list, coded_ℕ}
-use Rattle.std.specs.BTreeMap.{is_at}
-use Rattle.std.specs.List.Sorted.{IsStrictlySortedBy}
-use Rattle.std.specs.Map.{keys_of, lookup}
-use Rattle.std.specs.Global.{Vec}
 
 -- the open votes, by transaction
 abbrev pub Votes : Type 0

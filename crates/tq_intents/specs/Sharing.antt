@@ -1,12 +1,9 @@
 -- What contracts see of writes and of locks that others share.
 use Rattle.std.specs.Prelude.{◌<◌, ℕ, List, [], ◌∷◌, length, get_or}
-use Rattle.tq_asks.specs.declared.ask.HeldLock.{HeldLock}
-use Rattle.tq_asks.specs.declared.ask.WorkAsk.{WorkAsk}
-use Rattle.tq_asks.specs.declared.ask.WorkAsk.TheVariants.{Refresh}
+use Rattle.tq_asks.specs.declared.ask.{HeldLock.HeldLock, WorkAsk.WorkAsk, WorkAsk.TheVariants.Refresh}
 use Rattle.tq_locks.specs.declared.mode.Mode.TheVariants.{Shared}
 use Rattle.tq_store.specs.declared.write.Write.{Write}
-use Rattle.tq_intents.specs.declared.record.KeptLock.{KeptLock}
-use Rattle.tq_intents.specs.declared.shared_write.Source.{Source}
+use Rattle.tq_intents.specs.declared.{record.KeptLock.KeptLock, shared_write.Source.Source}
 use Rattle.tq_intents.specs.declared.shared_write.Source.TheVariants.{Listed, Told, Alone}
 
 -- the write of no file

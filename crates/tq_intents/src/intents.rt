@@ -1,13 +1,12 @@
 //! The stable records of a server, with an index of its open votes.
 
 ghost use Rattle.std.specs.Prelude.{◌≡◌, ◌+◌, ◌<◌, ◌≤◌, ◌++◌, [], ◌∷◌, None, OnOk, OnErr, IfOk, map, length, take, IsSome};
+ghost use Rattle.std.specs.{Option.option_copied, List.{list_any, filter_map}};
 ghost use Rattle.std.specs.FinMap as fin;
-ghost use Rattle.std.specs.Option.{option_copied};
-ghost use Rattle.std.specs.List.{list_any, filter_map};
 ghost use Rattle.tq_store.specs.Copies.{installed_all};
 ghost use Rattle.tq_intents.specs.Kept.{with_end, AddsOpenVote, AddsVote, Indexes, KeepsCopies, KeepsCopy, OpensVote, WritesVote, HasEachVote, kept_copies, kept_votes, vote_in, vote_records, HasOneVoteEach, HoldsVotesLocks, IsAbove, IsUnfinished, KeepsNewest, newer_first};
-ghost use Rattle.tq_intents.specs.Kept as spec;
 ghost use Rattle.tq_intents.specs.Sharing.{lock_of_vote};
+ghost use Rattle.tq_intents.specs.Kept as spec;
 
 use crate::record::{OpenVotes, VotesLeft};
 use crate::{KeptLock, LockVersions, NewerWrite, OpenVote, Record, SharedWrite, VoteLocks};

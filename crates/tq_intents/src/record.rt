@@ -1,7 +1,6 @@
 //! The stable records, and the votes that they keep open.
 
-ghost use Rattle.std.specs.Prelude.{◌≡◌, None, Some, IfOk, IsSome, OnErr, OnOk};
-ghost use Rattle.std.specs.Option.{option_copied};
+ghost use Rattle.std.specs.{Prelude.{◌≡◌, None, Some, IfOk, IsSome, OnErr, OnOk}, Option.option_copied};
 ghost use Rattle.tq_intents.specs.Kept.{AreInOrder, Indexes, IsWithout, vote_in};
 
 use crate::{SharedLock, SharedWrite, VoteLocks};
@@ -50,10 +49,8 @@ impl Drop for OpenVotes {
 }
 
 impl Model for OpenVotes {
-    ghost use Rattle.std.specs.Prelude.{◌≡◌, ℕ, List, [], IsSome};
-    ghost use Rattle.std.specs.Coded.{coded_list, coded_ℕ, coded×};
-    ghost use Rattle.tq_intents.specs.Kept.{votes_in};
-    ghost use Rattle.tq_intents.specs.declared.record.OpenVote.{OpenVote as vote_value};
+    ghost use Rattle.std.specs.{Prelude.{◌≡◌, ℕ, List, [], IsSome}, Coded.{coded_list, coded_ℕ, coded×}};
+    ghost use Rattle.tq_intents.specs.{Kept.votes_in, declared.record.OpenVote.OpenVote as vote_value};
     ghost use Rattle.tq_intents.specs.contracts.record.OpenVote as vote_type;
 
     ghost Value = { List (ℕ × vote_value) };
@@ -166,8 +163,7 @@ pub struct VotesLeft<'a> {
 }
 
 impl<'a> Model for VotesLeft<'a> {
-    ghost use Rattle.std.specs.Prelude.{ℕ, List, ◌++◌};
-    ghost use Rattle.std.specs.Option.{option_copied, option_to_list};
+    ghost use Rattle.std.specs.{Prelude.{ℕ, List, ◌++◌}, Option.{option_copied, option_to_list}};
     ghost use Rattle.tq_intents.specs.declared.record.OpenVote.{OpenVote as vote_value};
 
     ghost Value = { List (ℕ × vote_value) };
@@ -176,8 +172,7 @@ impl<'a> Model for VotesLeft<'a> {
 }
 
 impl<'a> Iterator for VotesLeft<'a> {
-    ghost use Rattle.std.specs.Iterator.{YieldsFirstBy, item_count};
-    ghost use Rattle.std.specs.Map.Iter.{deref_pair};
+    ghost use Rattle.std.specs.{Iterator.{YieldsFirstBy, item_count}, Map.Iter.deref_pair};
 
     type Item = (&'a u64, &'a OpenVote);
 

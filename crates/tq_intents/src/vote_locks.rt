@@ -32,8 +32,7 @@ impl Drop for VoteLocks {
 }
 
 impl Model for VoteLocks {
-    ghost use Rattle.std.specs.Prelude.{◌≡◌, List, length};
-    ghost use Rattle.std.specs.Coded.{coded_list};
+    ghost use Rattle.std.specs.{Prelude.{◌≡◌, List, length}, Coded.coded_list};
     ghost use Rattle.tq_intents.specs.declared.record.KeptLock.{KeptLock as lock_value};
     ghost use Rattle.tq_intents.specs.contracts.record.KeptLock as lock_type;
 

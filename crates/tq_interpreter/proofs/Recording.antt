@@ -1,60 +1,43 @@
 -- Jobs one after another, and what each asks. What a recorder notes of a step: it is told last, and all that was told
 -- leads to the journals after the step.
-use Rattle.std.specs.Int.{from_bool}
+use Rattle.std.specs.{Int.from_bool, Prelude.{nat_le, if◌then◌else◌, OnOk, OnErr}, List.{All, Contains, flat_map}}
+use Rattle.std.specs.Option.{option_map, unwrap_or}
 use Rattle.std.proofs.Common.{◌≡◌, ◌∙◌, ◌+◌, ◌≤◌, ℕ, Bool, true, cond, List, [], ◌∷◌, ◌++◌, length, append_assoc, None, Err, false, refl, sym, ap, subst, arith, suc, Option, Some, Result, Ok, append-nil, inl, inr, ◌==◌}
-use Rattle.std.proofs.lemmas.Bool.{eqb-true}
-use Rattle.std.proofs.lemmas.List.{length-append}
+use Rattle.std.proofs.lemmas.{Bool.eqb-true, List.length-append}
 use Rattle.std.proofs.lemmas.List.Elements.{All-nil, All-cons, All-head, All-tail, All-push, All-weaker, All-contains}
 use Rattle.tq_tables.specs.Journals.{JournalsView}
 use Rattle.tq_core.specs.declared.answer.Step.TheVariants as steps
 use Rattle.tq_core.specs.Steps.{world_after, IsTold, told_at, refuse_unfounded, refuse_entry, refuse_at, refusal, answer, world_with_step, server_journal, node_entry, desk_entry, view_entry}
-use Rattle.tq_asks.specs.declared.ask.NodeAsk.{NodeAsk}
-use Rattle.tq_asks.specs.declared.ask.NodeReply.{NodeReply}
+use Rattle.tq_core.specs.declared.answer.{Answer.Answer, Refusal.Refusal, Step.Step}
+use Rattle.tq_core.specs.{declared.citation.Citation.Citation, Founded.{unfounded_in_node_ask, unfounded_in_desk_ask}}
+use Rattle.tq_core.specs.{World.{item_at, server_entry}, Service.{refusal_of, told_by as told_step}}
+use Rattle.tq_asks.specs.declared.ask.{NodeAsk.NodeAsk, NodeReply.NodeReply, Verdict.Verdict}
 use Rattle.tq_txn.specs.declared.asker.Exchange.TheVariants as exchanges
-use Rattle.tq_shape.specs.declared.fault.AskFault.{AskFault}
+use Rattle.tq_shape.specs.{declared.fault.AskFault.AskFault, Journal.{Has, entry, state_at}, declared.part.Part.Part}
 use Rattle.tq_shape.specs.declared.fault.AskFault.TheVariants as faults
 use Rattle.tq_txn.specs.Dialogue.{Told, Dialogue, Ends, AsksNode, AsksDesk, AsksView, then_line, node_exchange, fault_of_ask, unless_memory}
-use Rattle.tq_refresh.specs.declared.job.Job.{Job}
-use Rattle.tq_refresh.specs.Plan.{answer_in, mends_asked}
+use Rattle.tq_txn.specs.{declared.asker.Exchange.Exchange, Told.{IsVerdictTold, answers_in}}
+use Rattle.tq_refresh.specs.{declared.job.Job.Job, Plan.{answer_in, mends_asked}}
 use Rattle.tq_interpreter.specs.Answer.{LeadsOn, Mended, nothing_mended, behind, so_far, jobs_asked, with_job, job_text, count_text, refresh_asked, refresh_jobs, refreshed_text}
-use Rattle.tq_text.specs.Print.{printed_line, is_memory}
 use Rattle.tq_interpreter.specs.Recorded.{Ran, run_line, node_told, desk_told, view_told, untaken_at, step_refusal, told_by, mark_of, RecorderView, StandsIn, IsReplayed, told_exchanges, step_of, Matches, Replays}
+use Rattle.tq_text.specs.Print.{printed_line, is_memory}
 use Rattle.tq_interpreter.proofs.ShellLines.{replays_on, then_ran, replays_push}
-use Rattle.std.specs.Prelude.{nat_le, if◌then◌else◌, OnOk, OnErr}
-use Rattle.std.specs.List.{All, Contains, flat_map}
-use Rattle.std.specs.Option.{option_map, unwrap_or}
-use Rattle.tq_desk.specs.declared.ask.DeskAsk.{DeskAsk}
+use Rattle.tq_desk.specs.{declared.ask.DeskAsk.DeskAsk, DeskStep.cited_votes, DeskJournal.gives_verdict}
+use Rattle.tq_desk.specs.declared.ask.DeskReply.{DeskReply}
 use Rattle.tq_desk.specs.declared.ask.DeskAsk.TheVariants as desk_asks
 use Rattle.tq_desk.specs.declared.ask.DeskRefusal.TheVariants as desk_refusals
 use Rattle.tq_desk.specs.declared.ask.DeskReply.TheVariants as desk_replies
-use Rattle.tq_desk.specs.DeskStep.{cited_votes}
-use Rattle.tq_desk.specs.DeskJournal.{gives_verdict}
-use Rattle.tq_asks.specs.declared.ask.Verdict.{Verdict}
 use Rattle.tq_asks.specs.declared.ask.Verdict.TheVariants as verdicts
-use Rattle.tq_txn_states.specs.Ended.{verdict_by}
+use Rattle.tq_txn_states.specs.{Ended.verdict_by, declared.told.NodeTold.NodeTold}
+use Rattle.tq_txn_states.specs.Voting.{CitesOnly, IsOpTold, IsVoteTold, grant_told, vote_told}
 use Rattle.tq_evidence.specs.declared.grant.Grant.{Grant}
-use Rattle.tq_live.specs.declared.view.ViewAsk.{ViewAsk}
+use Rattle.tq_live.specs.declared.view.{ViewAsk.ViewAsk, ViewReply.ViewReply}
 use Rattle.tq_node.specs.NodeJournal.{NodeEntry}
-use Rattle.tq_core.specs.declared.answer.Answer.{Answer}
-use Rattle.tq_core.specs.declared.answer.Refusal.{Refusal}
 use Rattle.tq_core.specs.declared.answer.Refusal.TheVariants as refusals
 use Rattle.tq_core.specs.declared.answer.Reply.TheVariants as replies
-use Rattle.tq_core.specs.declared.answer.Step.{Step}
-use Rattle.tq_core.specs.declared.citation.Citation.{Citation}
-use Rattle.tq_core.specs.Founded.{unfounded_in_node_ask, unfounded_in_desk_ask}
-use Rattle.tq_core.specs.World.{item_at, server_entry}
 use Rattle.tq_core.proofs.Contents.{granted-founded, voted-founded, commit-founded, verdict-founded}
 use Rattle.tq_core.proofs.Journaled.{desk_new, desk_stays, entry_new, entry_stays}
-use Rattle.tq_shape.specs.Journal.{Has, entry, state_at}
-use Rattle.tq_shape.specs.declared.part.Part.{Part}
 use Rattle.tq_shape.specs.declared.part.Part.TheVariants as parts
-use Rattle.tq_desk.specs.declared.ask.DeskReply.{DeskReply}
-use Rattle.tq_live.specs.declared.view.ViewReply.{ViewReply}
-use Rattle.tq_txn.specs.declared.asker.Exchange.{Exchange}
-use Rattle.tq_txn.specs.Told.{IsVerdictTold, answers_in}
-use Rattle.tq_txn_states.specs.declared.told.NodeTold.{NodeTold}
-use Rattle.tq_txn_states.specs.Voting.{CitesOnly, IsOpTold, IsVoteTold, grant_told, vote_told}
-use Rattle.tq_core.specs.Service.{refusal_of, told_by as told_step}
 
 pub node_answered : (server : ℕ) (ask : NodeAsk) (told : Told NodeReply) (old new : RecorderView) → IsReplayed old → IsReplayed new → new.journals.levels ≡ old.journals.levels → new.told ≡ old.told ++ exchanges.Node server ask told ∷ []
     → (told ≡ node_told old.journals server ask) × (new.journals ≡ world_after old.journals (steps.Node server ask))

@@ -1,47 +1,36 @@
 -- The asks of a line, each told what the service answers, are its run. A line of a transaction whose asks are the
 -- dialogue's is run so, and says this. A line of the shell whose asks are the dialogue's is answered so.
 use Rattle.std.proofs.Common.{◌≡◌, ◌∙◌, ◌-◌, ◌<◌, cond, nat_lt, arith, ℕ, true, List, [], ◌∷◌, ◌++◌, Some, None, append_assoc, append-nil, refl, sym, ap, subst, false, Option, Result, Ok, Err, ◌+◌, length, get_or, inl, inr}
+use Rattle.std.proofs.lemmas.{Option.slice_get_read, List.Elements.{All-nil, All-push, All-weaker}}
 use Rattle.tq_tables.specs.Journals.{JournalsView}
 use Rattle.tq_core.specs.declared.answer.Step.TheVariants as steps
-use Rattle.tq_core.specs.Steps.{world_after}
-use Rattle.tq_txn.specs.declared.asker.Exchange.{Exchange}
-use Rattle.tq_txn.specs.declared.asker.Exchange.TheVariants as exchanges
+use Rattle.tq_core.specs.{Steps.world_after, World.item_at}
+use Rattle.tq_txn.specs.declared.{asker.Exchange.Exchange, fault.LineFault.LineFault, txn.Txn.Txn}
 use Rattle.tq_txn.specs.Dialogue.{Told, Dialogue, Ends, AsksNode, AsksDesk, AsksView, Makes, Follows, then_line, LineEnd, ended_by, desk_exchange, desk_line, line_result}
+use Rattle.tq_txn.specs.Told.{IsEnding, Knows, levels_of}
+use Rattle.tq_txn.specs.declared.asker.Exchange.TheVariants as exchanges
 use Rattle.tq_interpreter.specs.Recorded.{Ran, run_line, exchange_first, node_told, desk_told, view_told, RecorderView, Replays, IsReplayed, Matches, step_of, mark_of, coded_numbers, Progress}
-use Rattle.std.specs.Prelude.{slice_get, IfOk, slice_set}
-use Rattle.tq_core.specs.World.{item_at}
-use base.Stored.{Gv, gnil, gnum, gcons}
-use Rattle.tq_tables.specs.contracts.journals.Journals as journals_type
-use Rattle.tq_txn.specs.declared.fault.LineFault.{LineFault}
-use Rattle.tq_txn.specs.declared.fault.LineFault.TheVariants as faults
-use Rattle.tq_interpreter.specs.declared.txn_slot.TxnSlot.{TxnSlot}
+use Rattle.tq_interpreter.specs.declared.{txn_slot.TxnSlot.TxnSlot, states.Closed.Closed}
 use Rattle.tq_interpreter.specs.TxnAsked.{TxnAnswer, IsAnswered, IsClosed, is_refused_memory, line_asked}
-use Rattle.tq_interpreter.specs.declared.states.Closed.{Closed}
-use Rattle.tq_interpreter.specs.declared.states.Closed.TheVariants as closed
-use Rattle.tq_txn_states.specs.Voting.{VotingView}
-use Rattle.tq_text.specs.Print.{printed_line}
-use Rattle.tq_shape.specs.declared.fault.AskFault.{AskFault}
-use Rattle.tq_shape.specs.declared.fault.AskFault.TheVariants as ask_faults
-use Rattle.tq_desk.specs.declared.ask.DeskAsk.TheVariants.{Begin}
-use Rattle.tq_txn_states.specs.declared.told.DeskTold.{DeskTold}
-use Rattle.tq_txn.proofs.LineLaws.{asked_desk, further}
 use Rattle.tq_interpreter.specs.Answer.{World, Answer, answer, answer_of_run, IsWhole, LineAnswer, begin_end, begin_reply, of_txn, refresh_line, text_answer, refresh_asked}
 use Rattle.tq_interpreter.specs.Known.{with_kept, AreKept, IsKept, IsLater, Known, fresh, known_of}
+use Rattle.std.specs.{Prelude.{slice_get, IfOk, slice_set}, Global.Vec}
+use base.Stored.{Gv, gnil, gnum, gcons}
+use Rattle.tq_tables.specs.contracts.journals.Journals as journals_type
+use Rattle.tq_txn.specs.declared.fault.LineFault.TheVariants as faults
+use Rattle.tq_interpreter.specs.declared.states.Closed.TheVariants as closed
+use Rattle.tq_txn_states.specs.{Voting.VotingView, declared.told.DeskTold.DeskTold, Open.{OpenView, opening_txn}}
+use Rattle.tq_txn_states.specs.Voting.{IsOpTold, IsVoteTold, KeepsOnly}
+use Rattle.tq_text.specs.Print.{printed_line}
+use Rattle.tq_shape.specs.{declared.fault.AskFault.AskFault, Limits.LimitsView}
+use Rattle.tq_shape.specs.declared.fault.AskFault.TheVariants as ask_faults
+use Rattle.tq_desk.specs.declared.ask.{DeskAsk.TheVariants.Begin, DeskReply.DeskReply}
+use Rattle.tq_txn.proofs.{LineLaws.{asked_desk, further}, CommitLaws.levels_still}
+use Rattle.tq_txn.proofs.KnownLaws.{grown_along, knows_grow, open_fresh}
 use Rattle.tq_syntax.specs.declared.line.Line.TheVariants as shell_lines
 use Rattle.tq_syntax.specs.declared.line.TxnLine.{TxnLine}
-use Rattle.std.proofs.lemmas.Option.{slice_get_read}
-use Rattle.std.specs.Global.{Vec}
-use Rattle.std.proofs.lemmas.List.Elements.{All-nil, All-push, All-weaker}
-use Rattle.tq_shape.specs.Limits.{LimitsView}
-use Rattle.tq_desk.specs.declared.ask.DeskReply.{DeskReply}
 use Rattle.tq_desk.specs.declared.ask.DeskReply.TheVariants as desk_replies
-use Rattle.tq_txn.specs.Told.{IsEnding, Knows, levels_of}
-use Rattle.tq_txn.specs.declared.txn.Txn.{Txn}
 use Rattle.tq_txn.specs.declared.txn.Txn.TheVariants as states
-use Rattle.tq_txn_states.specs.Open.{OpenView, opening_txn}
-use Rattle.tq_txn_states.specs.Voting.{IsOpTold, IsVoteTold, KeepsOnly}
-use Rattle.tq_txn.proofs.CommitLaws.{levels_still}
-use Rattle.tq_txn.proofs.KnownLaws.{grown_along, knows_grow, open_fresh}
 
 pub item_of : {E : Type 0} (items : List E) (number place : ℕ) (x : E) → 0 < number → number - 1 ≡ place → slice_get items place ≡ Some x → item_at items number ≡ Some x
 item_of items number place x less same is =

@@ -2,37 +2,27 @@
 -- as the answers before demand, and what it makes of the answers: the text that is printed, and what is known of the
 -- transactions afterwards. All from what was known before. What the shell stands on, and what it answers to a line.
 use Rattle.std.specs.Prelude.{◌≡◌, ◌≤◌, ℕ, ◌+◌, Bool, true, false, cond, List, [], ◌∷◌, ◌++◌, length, codes, Option, Some, None, Result, Ok, Err, ◌⊎◌}
-use Rattle.std.specs.Fmt.{decimal}
-use Rattle.std.specs.Global.{Vec}
-use Rattle.tq_tables.specs.Journals.{JournalsView}
-use Rattle.tq_tables.specs.Parts.{view_at}
-use Rattle.tq_tables.specs.Tables.{tables_of}
-use Rattle.tq_refresh.specs.Plan.{mends_asked, jobs_of_plan, plan_of}
-use Rattle.tq_refresh.specs.declared.file_jobs.PlanByFile.{PlanByFile}
+use Rattle.std.specs.{Fmt.decimal, Global.Vec}
+use Rattle.tq_tables.specs.{Journals.JournalsView, Parts.view_at, Tables.tables_of}
+use Rattle.tq_refresh.specs.{Plan.{mends_asked, jobs_of_plan, plan_of}, declared.file_jobs.PlanByFile.PlanByFile}
 use Rattle.tq_refresh.specs.declared.job.Job.{Job}
 use Rattle.tq_board_text.specs.Board.{board_text}
 use Rattle.tq_txn.specs.Dialogue as asks
-use Rattle.tq_txn.specs.Dialogue.{Ends, then_line, LineEnd, desk_line, view_line, Dialogue}
+use Rattle.tq_txn.specs.{Dialogue.{Ends, then_line, LineEnd, desk_line, view_line, Dialogue}, Script.mark_line}
+use Rattle.tq_txn.specs.declared.{fault.LineFault.LineFault, asker.ViewTold.ViewTold, asker.Exchange.Exchange}
 use Rattle.tq_text.specs.Print.{printed_line, choice_text, mark_word, fault_text, desk_refusal_text}
-use Rattle.tq_interpreter.specs.Recorded.{Ran, run_line, RecorderView, full_limits}
-use Rattle.tq_interpreter.specs.declared.operators.Counts.{Counts}
+use Rattle.tq_interpreter.specs.{Recorded.{Ran, run_line, RecorderView, full_limits}, declared.operators.Counts.Counts}
+use Rattle.tq_interpreter.specs.{declared.txn_slot.TxnSlot.TxnSlot, TxnAsked.{TxnAnswer, line_asked, result_text}}
+use Rattle.tq_interpreter.specs.Known.{Known, known_at, with_begun, with_kept, nothing_known}
 use Rattle.tq_desk.specs.declared.ask.DeskAsk.TheVariants as desk_asks
 use Rattle.tq_desk.specs.declared.ask.DeskReply.{DeskReply}
 use Rattle.tq_desk.specs.declared.ask.DeskReply.TheVariants as desk_replies
-use Rattle.tq_live.specs.View.{is_server, is_cost}
-use Rattle.tq_live.specs.declared.purpose.Purpose.{Purpose}
+use Rattle.tq_live.specs.{View.{is_server, is_cost}, declared.purpose.Purpose.Purpose}
 use Rattle.tq_live.specs.declared.view.ViewAsk.TheVariants as view_asks
-use Rattle.tq_txn.specs.declared.fault.LineFault.{LineFault}
-use Rattle.tq_txn.specs.declared.asker.ViewTold.{ViewTold}
 use Rattle.tq_txn_states.specs.declared.told.DeskTold.{DeskTold}
-use Rattle.tq_txn.specs.Script.{mark_line}
-use Rattle.tq_interpreter.specs.declared.txn_slot.TxnSlot.{TxnSlot}
 use Rattle.tq_syntax.specs.declared.line.Line.{Line}
 use Rattle.tq_syntax.specs.declared.line.Line.TheVariants as is
-use Rattle.tq_interpreter.specs.Known.{Known, known_at, with_begun, with_kept, nothing_known}
-use Rattle.tq_interpreter.specs.TxnAsked.{TxnAnswer, line_asked, result_text}
 use Rattle.tq_core.specs.World.{desk_at, empty_world}
-use Rattle.tq_txn.specs.declared.asker.Exchange.{Exchange}
 
 -- no more copies were mended than there were jobs, and no more jobs than bytes that are written
 abbrev pub IsCounted : Counts → Vec ℕ → Type 0

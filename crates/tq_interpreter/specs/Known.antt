@@ -1,16 +1,12 @@
 -- What the shell knows of transactions.
-use Rattle.std.specs.Prelude.{◌≡◌, ℕ, ◌-◌, List, [], ◌∷◌, ◌++◌, Option, Some, None, slice_set}
-use Rattle.std.specs.Global.{Vec}
-use Rattle.std.specs.List.{All}
+use Rattle.std.specs.{Prelude.{◌≡◌, ℕ, ◌-◌, List, [], ◌∷◌, ◌++◌, Option, Some, None, slice_set}, Global.Vec, List.All}
 use Rattle.tq_shape.specs.Limits.{LimitsView}
 use Rattle.tq_asks.specs.declared.ask.Verdict.{Verdict}
-use Rattle.tq_txn.specs.declared.txn.Txn.{Txn}
+use Rattle.tq_txn.specs.{declared.txn.Txn.Txn, Told.{Grown, Knows, levels_of}}
 use Rattle.tq_txn.specs.declared.txn.Txn.TheVariants as states
-use Rattle.tq_txn.specs.Told.{Grown, Knows, levels_of}
 use Rattle.tq_txn_states.specs.Open as first
 use Rattle.tq_core.specs.World.{item_at}
-use Rattle.tq_interpreter.specs.Recorded.{RecorderView}
-use Rattle.tq_interpreter.specs.declared.txn_slot.TxnSlot.{TxnSlot}
+use Rattle.tq_interpreter.specs.{Recorded.RecorderView, declared.txn_slot.TxnSlot.TxnSlot}
 use Rattle.tq_interpreter.specs.declared.txn_slot.Ending.{Ending}
 
 -- the levels of the tree and the limits, how many transactions others had begun before, and those begun since, in the order of

@@ -1,36 +1,26 @@
 -- A line in a world: the service answers each of its asks, and the next is made as the answers demand. The asks of a
 -- service in their order, and the worlds that they lead through. How far a session is.
 use Rattle.std.specs.Prelude.{ℕ, suc, nat_le, List, [], ◌∷◌, length, Option, Some, None, Ok, Err, if◌then◌else◌, ◌≡◌, ◌++◌}
-use Rattle.std.specs.List.{All}
-use Rattle.std.specs.Option.{option_map}
-use Rattle.tq_shape.specs.Journal.{entry}
-use Rattle.tq_shape.specs.declared.part.Part.{Part}
-use Rattle.tq_shape.specs.declared.part.Part.TheVariants as parts
-use Rattle.tq_shape.specs.declared.fault.AskFault.{AskFault}
+use Rattle.std.specs.{List.All, Option.option_map, Global.Vec}
+use Rattle.tq_shape.specs.{Journal.entry, declared.part.Part.Part, declared.fault.AskFault.AskFault, Limits.LimitsView}
 use Rattle.tq_shape.specs.declared.fault.AskFault.TheVariants.{JournalFull, Unfounded, Memory}
-use Rattle.tq_asks.specs.declared.ask.NodeAsk.{NodeAsk}
-use Rattle.tq_asks.specs.declared.ask.NodeReply.{NodeReply}
-use Rattle.tq_desk.specs.declared.ask.DeskAsk.{DeskAsk}
-use Rattle.tq_desk.specs.declared.ask.DeskReply.{DeskReply}
-use Rattle.tq_live.specs.declared.view.ViewAsk.{ViewAsk}
-use Rattle.tq_live.specs.declared.view.ViewReply.{ViewReply}
+use Rattle.tq_shape.specs.declared.part.Part.TheVariants as parts
+use Rattle.tq_asks.specs.declared.ask.{NodeAsk.NodeAsk, NodeReply.NodeReply}
+use Rattle.tq_desk.specs.declared.ask.{DeskAsk.DeskAsk, DeskReply.DeskReply}
+use Rattle.tq_live.specs.declared.view.{ViewAsk.ViewAsk, ViewReply.ViewReply}
 use Rattle.tq_tables.specs.Journals.{JournalsView}
-use Rattle.tq_core.specs.declared.answer.Step.{Step}
-use Rattle.tq_core.specs.declared.answer.Step.TheVariants as steps
-use Rattle.tq_core.specs.declared.citation.Citation.{Citation}
+use Rattle.tq_core.specs.{declared.answer.Step.Step, declared.citation.Citation.Citation, World.{item_at, server_entry}}
 use Rattle.tq_core.specs.Founded.{unfounded_in_node_ask, unfounded_in_desk_ask}
-use Rattle.tq_core.specs.World.{item_at, server_entry}
 use Rattle.tq_core.specs.Steps.{server_journal, node_entry, desk_entry, view_entry, world_after}
+use Rattle.tq_core.specs.declared.answer.Step.TheVariants as steps
 use Rattle.tq_txn.specs.declared.asker.Exchange.{Exchange}
-use Rattle.tq_txn.specs.declared.asker.Exchange.TheVariants as exchanges
 use Rattle.tq_txn.specs.Dialogue.{Told, Dialogue, Ends, AsksNode, AsksDesk, AsksView, unless_memory}
+use Rattle.tq_txn.specs.declared.asker.Exchange.TheVariants as exchanges
 use base.Stored.{Gv, gnil, gnum, gcons}
-use Rattle.tq_shape.specs.Limits.{LimitsView}
 use Rattle.tq_asks.specs.declared.ask.NodeAsk.TheVariants as asks
 use Rattle.tq_asks.specs.declared.ask.WorkAsk.TheVariants as work
 use Rattle.tq_locks.specs.declared.mode.Mode.TheVariants as modes
 use Rattle.tq_tables.specs.contracts.journals.Journals as journals_type
-use Rattle.std.specs.Global.{Vec}
 
 -- why a part with so many entries does not take an ask: its journal is full, or else the ask cites an entry that does not stand
 abbrev pub untaken_at : JournalsView → Part → ℕ → Option Citation → Option AskFault

@@ -8,35 +8,26 @@ use Rattle.tq_desk.specs.declared.ask.DeskReply.{DeskReply}
 use Rattle.tq_desk.specs.declared.ask.DeskReply.TheVariants as desk_replies
 use Rattle.tq_live.specs.View.{is_server}
 use Rattle.tq_asks.specs.declared.ask.WorkAsk.TheVariants.{Decide}
-use Rattle.tq_txn.specs.declared.fault.LineFault.{LineFault}
-use Rattle.tq_txn.specs.declared.txn.ReadAnswer.{ReadAnswer}
-use Rattle.tq_txn.specs.declared.txn.Applied.{Applied}
-use Rattle.tq_txn_states.specs.declared.told.DeskTold.{DeskTold}
-use Rattle.tq_txn.specs.declared.txn.Txn.{Txn}
-use Rattle.tq_txn.specs.declared.txn.Txn.TheVariants as states
-use Rattle.tq_txn_states.specs.Ended.{resolve_verdict}
-use Rattle.tq_txn.specs.Dialogue as asks
-use Rattle.tq_txn.specs.Dialogue.{LineEnd, Ends, then_line, desk_line}
-use Rattle.tq_txn.specs.Lines as lines
+use Rattle.tq_txn.specs.declared.{fault.LineFault.LineFault, txn.ReadAnswer.ReadAnswer, txn.Applied.Applied}
+use Rattle.tq_txn.specs.{declared.txn.Txn.Txn, Dialogue.{LineEnd, Ends, then_line, desk_line}}
 use Rattle.tq_txn.specs.Commits.{decide_line, commit_line, abort_line}
-use Rattle.tq_txn_states.specs.Open.{OpenView, op_read, op_written, close_fault}
+use Rattle.tq_txn_states.specs.{declared.told.DeskTold.DeskTold, Ended.resolve_verdict}
+use Rattle.tq_txn_states.specs.{Open.{OpenView, op_read, op_written, close_fault}, declared.fault.TxnFault.TxnFault}
 use Rattle.tq_txn_states.specs.Voting.{VotingView, voting_of, has_vote}
-use Rattle.tq_txn_states.specs.declared.fault.TxnFault.{TxnFault}
-use Rattle.tq_interpreter.specs.declared.txn_slot.TxnSlot.{TxnSlot}
-use Rattle.tq_interpreter.specs.declared.txn_slot.Ending.{Ending}
-use Rattle.tq_interpreter.specs.declared.operations.Operation.{Operation}
+use Rattle.tq_txn.specs.declared.txn.Txn.TheVariants as states
+use Rattle.tq_txn.specs.Dialogue as asks
+use Rattle.tq_txn.specs.Lines as lines
+use Rattle.tq_interpreter.specs.declared.{txn_slot.TxnSlot.TxnSlot, txn_slot.Ending.Ending, server_lines.Phase.Phase}
+use Rattle.tq_interpreter.specs.declared.{operations.Operation.Operation, decisions.CommitScope.CommitScope}
+use Rattle.tq_interpreter.specs.declared.{server_lines.ServerLine.ServerLine, states.Closed.Closed}
+use Rattle.tq_interpreter.specs.Recorded.{run_line, Progress, RecorderView}
+use Rattle.tq_interpreter.specs.Known.{IsKept, in_state, with_told, ending_in}
 use Rattle.tq_interpreter.specs.declared.operations.Operation.TheVariants as operations
-use Rattle.tq_interpreter.specs.declared.decisions.CommitScope.{CommitScope}
 use Rattle.tq_interpreter.specs.declared.decisions.CommitScope.TheVariants as courses
-use Rattle.tq_interpreter.specs.declared.server_lines.ServerLine.{ServerLine}
-use Rattle.tq_interpreter.specs.declared.server_lines.Phase.{Phase}
 use Rattle.tq_interpreter.specs.declared.server_lines.Phase.TheVariants as duties
 use Rattle.tq_syntax.specs.declared.line.TxnLine.{TxnLine}
 use Rattle.tq_syntax.specs.declared.line.TxnLine.TheVariants as of
-use Rattle.tq_interpreter.specs.Recorded.{run_line, Progress, RecorderView}
-use Rattle.tq_interpreter.specs.Known.{IsKept, in_state, with_told, ending_in}
 use Rattle.tq_text.specs.Print.{printed_line, reading_text, writing_text, applied_text, verdict_text, fault_text, is_memory, txn_fault_text, decided_text, desk_refusal_text}
-use Rattle.tq_interpreter.specs.declared.states.Closed.{Closed}
 use Rattle.tq_interpreter.specs.declared.states.Closed.TheVariants as closed
 
 -- what a line of one transaction says, and what is kept of the transaction then

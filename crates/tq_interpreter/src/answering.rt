@@ -1,9 +1,8 @@
 //! The lines of a transaction, by what they ask for.
 ghost use Rattle.std.specs.Prelude.{◌≡◌, IfOk, OnOk, OnErr};
-ghost use Rattle.tq_interpreter.specs.Known.{IsKept, IsLater};
+ghost use Rattle.tq_interpreter.specs.{Known.{IsKept, IsLater}, Recorded.progress_of};
 ghost use Rattle.tq_interpreter.specs.TxnAsked as spec;
 ghost use Rattle.tq_text.specs.Print.{Extends};
-ghost use Rattle.tq_interpreter.specs.Recorded.{progress_of};
 
 use crate::decisions::{CommitScope, decide_txn};
 use crate::endings::{abort_txn, resolve};

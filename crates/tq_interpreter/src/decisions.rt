@@ -1,10 +1,9 @@
 //! The lines of a transaction that bring its desk to a decision.
 ghost use Rattle.std.specs.Prelude.{◌≡◌, ◌++◌, false, IfOk, OnOk, OnErr};
 ghost use Rattle.tq_coterie.specs.Coterie.{numbers_of};
-ghost use Rattle.tq_interpreter.specs.Known.{IsKept, IsLater};
+ghost use Rattle.tq_interpreter.specs.{Known.{IsKept, IsLater}, Recorded.progress_of};
 ghost use Rattle.tq_interpreter.specs.TxnAsked as spec;
 ghost use Rattle.tq_text.specs.Print.{Extends, printed_line, Prints};
-ghost use Rattle.tq_interpreter.specs.Recorded.{progress_of};
 
 use crate::recorder::Recorder;
 use crate::states::{Closed, stand_in, voting_of};

@@ -1,9 +1,8 @@
 //! The lines of a transaction that abort it and that ask how it ended.
 ghost use Rattle.std.specs.Prelude.{◌≡◌, ◌++◌, [], false, codes, IfOk, OnOk, OnErr};
-ghost use Rattle.tq_interpreter.specs.Known.{IsKept, IsLater};
+ghost use Rattle.tq_interpreter.specs.{Known.{IsKept, IsLater}, Recorded.progress_of};
 ghost use Rattle.tq_interpreter.specs.TxnAsked as spec;
 ghost use Rattle.tq_text.specs.Print.{Extends, printed_line, Prints};
-ghost use Rattle.tq_interpreter.specs.Recorded.{progress_of};
 
 use crate::recorder::Recorder;
 use crate::states::stand_in;

@@ -1,6 +1,5 @@
 //! A list that contracts alone see.
-ghost use Rattle.std.specs.Prelude.{◌≡◌, List};
-ghost use Rattle.std.specs.Coded.{coded_list};
+ghost use Rattle.std.specs.{Prelude.{◌≡◌, List}, Coded.coded_list};
 ghost use base.Fml.{ftrue};
 
 use std::marker::{Model, PhantomData};

@@ -1,10 +1,9 @@
 //! The lines of a transaction that read and write.
 ghost use Rattle.std.specs.Prelude.{◌≡◌, ◌++◌, [], false, IfOk, OnOk, OnErr};
 ghost use Rattle.tq_txn.specs.declared.txn.Txn.TheVariants as states;
-ghost use Rattle.tq_interpreter.specs.Known.{IsKept, IsLater, in_state};
+ghost use Rattle.tq_interpreter.specs.{Known.{IsKept, IsLater, in_state}, Recorded.progress_of};
 ghost use Rattle.tq_interpreter.specs.TxnAsked as spec;
 ghost use Rattle.tq_text.specs.Print.{Extends, printed_line, Prints};
-ghost use Rattle.tq_interpreter.specs.Recorded.{progress_of};
 
 use crate::recorder::Recorder;
 use crate::states::say_decided;

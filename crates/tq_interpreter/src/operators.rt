@@ -1,14 +1,12 @@
 //! The lines of operators: the refresh and the board.
 ghost use Rattle.std.specs.Prelude.{◌≡◌, ◌≤◌, ◌+◌, ◌++◌, List, length, true, false, IfOk, OnOk, OnErr, string_bytes};
-ghost use Rattle.std.specs.Fmt.{decimal};
-ghost use Rattle.std.specs.Option.{option_map};
+ghost use Rattle.std.specs.{Fmt.decimal, Option.option_map};
 ghost use Rattle.tq_core.specs.Steps.{world_after};
 ghost use Rattle.tq_core.specs.declared.answer.Step.TheVariants as steps;
 ghost use Rattle.tq_refresh.specs.Plan.{answer_in, is_refreshed, mends_asked, ArePlanned, IsPlanned, jobs_in, jobs_of_plan, peek_of};
 ghost use Rattle.tq_refresh.specs.declared.job.Job.{Job};
 ghost use Rattle.tq_txn.specs.Dialogue.{fault_of_ask};
-ghost use Rattle.tq_interpreter.specs.Known.{IsLater};
-ghost use Rattle.tq_interpreter.specs.Recorded.{node_told, run_line};
+ghost use Rattle.tq_interpreter.specs.{Known.IsLater, Recorded.{node_told, run_line}};
 ghost use Rattle.tq_interpreter.specs.Answer as spec;
 ghost use Rattle.tq_text.specs.Print.{Extends, printed_line, Appends, Prints, is_memory};
 

@@ -2,9 +2,8 @@
 ghost use Rattle.std.specs.Prelude.{◌≡◌, ◌++◌, ◌∷◌, [], false, cond, Some, None, codes, IfOk, OnOk, OnErr};
 ghost use Rattle.std.specs.Fmt.{decimal};
 ghost use Rattle.tq_interpreter.specs.TxnAsked as spec;
-ghost use Rattle.tq_interpreter.specs.Known.{IsKept, IsLater, in_state};
+ghost use Rattle.tq_interpreter.specs.{Known.{IsKept, IsLater, in_state}, Recorded.progress_of};
 ghost use Rattle.tq_text.specs.Print.{Extends, printed_line, applied_text, Prints};
-ghost use Rattle.tq_interpreter.specs.Recorded.{progress_of};
 
 use crate::recorder::Recorder;
 use crate::states::{Closed, ending_of, stand_in, voting_of};

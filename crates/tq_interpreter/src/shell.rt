@@ -1,8 +1,8 @@
 //! Any line of the shell.
 
 ghost use Rattle.std.specs.Prelude.{◌≡◌, ◌++◌, ◌<◌, ◌+◌, ℕ, [], false, length, None, IfOk, OnOk, OnErr, IfSome, IsNone, vec_len, vec_capacity};
-ghost use Rattle.tq_txn.specs.Dialogue.{line_result};
 ghost use Rattle.std.specs.Fmt.{decimal};
+ghost use Rattle.tq_txn.specs.Dialogue.{line_result};
 ghost use Rattle.tq_interpreter.specs.Answer as asked;
 ghost use Rattle.tq_interpreter.specs.Known as known;
 ghost use Rattle.tq_interpreter.specs.TxnAsked as said;
@@ -35,8 +35,7 @@ pub struct Shell {
 
 impl Model for Shell {
     ghost use Rattle.std.specs.Prelude.{◌≡◌};
-    ghost use Rattle.tq_interpreter.specs.Answer.{World};
-    ghost use Rattle.tq_interpreter.specs.Known.{AreKept};
+    ghost use Rattle.tq_interpreter.specs.{Answer.World, Known.AreKept};
 
     ghost Value = { World };
 
@@ -56,8 +55,7 @@ impl Model for Shell {
 
 impl Shell {
     ghost use Rattle.std.specs.Prelude.{◌≡◌, ◌++◌, IfOk, OnOk, OnErr};
-    ghost use Rattle.tq_interpreter.specs.Known.{known_at};
-    ghost use Rattle.tq_interpreter.specs.Answer.{opening, over, answer, given_by, IsWhole};
+    ghost use Rattle.tq_interpreter.specs.{Known.known_at, Answer.{opening, over, answer, given_by, IsWhole}};
     ghost use Rattle.tq_text.specs.Print.{Extends};
 
     /// Every server at cost 1 and up, nothing stored, and no transaction.

@@ -1,9 +1,7 @@
 //! The states of a transaction, as its lines want them.
-ghost use Rattle.std.specs.Prelude.{◌≡◌, ◌++◌, OnOk, OnErr, IfOk};
-ghost use Rattle.std.specs.Option.{option_map};
+ghost use Rattle.std.specs.{Prelude.{◌≡◌, ◌++◌, OnOk, OnErr, IfOk}, Option.option_map};
 ghost use Rattle.tq_text.specs.Print.{Extends, printed_line, Prints, decided_text};
-ghost use Rattle.tq_interpreter.specs.Known.{IsKept, ending_in};
-ghost use Rattle.tq_interpreter.specs.Recorded.{RecorderView};
+ghost use Rattle.tq_interpreter.specs.{Known.{IsKept, ending_in}, Recorded.RecorderView};
 ghost use Rattle.tq_txn.specs.Told.{levels_of};
 ghost use Rattle.tq_interpreter.specs.TxnAsked as spec;
 

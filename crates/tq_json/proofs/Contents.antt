@@ -2,34 +2,23 @@
 -- and one of no more gives what its bytes are. A number with a minus sign is no number of 64 bits without a sign. A
 -- number that is less than the greatest float is finite.
 use Rattle.std.proofs.Common.{◌≡◌, ◌+◌, ◌-◌, ◌*◌, ◌^◌, ◌<◌, ◌≤◌, ◌∷◌, ◌++◌, ℕ, zero, suc, List, [], length, take, get_or, false, Some, refl, sym, ap, ◌∙◌, arith, append-nil, cond, Option, None, Result, Ok, Err, ◌&&◌, ℤ, Float, Bool, true, if◌then◌else◌, nat_lt, nat_le, ◌==◌, true≢false, T, length-append}
-use Rattle.std.proofs.lemmas.Bool.{lt-ltb, lt-leb, le-leb, ne_eqb, false≢true}
-use Rattle.std.proofs.lemmas.List.{length-take-le}
-use Rattle.std.proofs.lemmas.Int.Digits.{digits_value-lt, digits_value_more}
-use Rattle.std.proofs.lemmas.Str.{digit_value_digit}
-use Rattle.std.proofs.lemmas.Str.Parse.{digit_from_value}
-use Rattle.std.proofs.lemmas.Float.Parse.{scan_numeral-text_of}
+use Rattle.std.proofs.lemmas.{Bool.{lt-ltb, lt-leb, le-leb, ne_eqb, false≢true}, List.length-take-le}
+use Rattle.std.proofs.lemmas.{Int.Digits.{digits_value-lt, digits_value_more}, Str.digit_value_digit}
+use Rattle.std.proofs.lemmas.{Str.Parse.digit_from_value, Float.Parse.scan_numeral-text_of}
 use Rattle.std.proofs.Math.Nat.{pow-le-pow_right, mul-le-mul_right, le_trans}
-use Rattle.std.specs.Char.{digit_value}
-use Rattle.std.specs.Option.{option_and_then, is_some}
-use Rattle.std.specs.Str.Parse.{AllDigits, digits_value}
+use Rattle.std.specs.{Char.digit_value, Option.{option_and_then, is_some}, Str.Parse.{AllDigits, digits_value}}
+use Rattle.std.specs.{Prelude.{◌↔◌, IfOk, IfSome, IsSome}, Float.{binary64, float_is_finite}}
 use Rattle.fast_float.specs.Text.{Parts, scan, digits_of, nearest, with_sign, tens_up, tens_down}
-use Rattle.serde_json.specs.Find.{as_u64}
-use Rattle.serde_json.specs.Read.{number_of, number_from, is_integer, float_of}
-use Rattle.std.specs.Prelude.{◌↔◌, IfOk, IfSome, IsSome}
-use Rattle.hex.specs.Hex.{decode_of, decode_pairs}
-use Rattle.hex.specs.declared.error.FromHexError.{FromHexError}
-use Rattle.hex.proofs.HexLemmas.{decode_of-ok}
-use Rattle.tq_json.specs.declared.format.Format.{Format}
-use Rattle.tq_json.specs.declared.format.Format.TheVariants.{One, Two}
-use Rattle.tq_json.specs.Member.{most_content, content_of, content_read, short_enough, ◌>>=◌}
-use Rattle.std.specs.Float.{binary64, float_is_finite}
+use Rattle.serde_json.specs.{Find.as_u64, Read.{number_of, number_from, is_integer, float_of}}
 use Rattle.serde_json.specs.Data.{Num, negative, float}
+use Rattle.hex.specs.{Hex.{decode_of, decode_pairs}, declared.error.FromHexError.FromHexError}
+use Rattle.hex.proofs.HexLemmas.{decode_of-ok}
+use Rattle.tq_json.specs.declared.format.{Format.Format, Format.TheVariants.{One, Two}}
+use Rattle.tq_json.specs.Member.{most_content, content_of, content_read, short_enough, ◌>>=◌}
 use lib.Ieee.{fin, inf, nan, round, units, odd, neg, le, lt, eq}
 use lib.Ieee.Order.{round_mono}
 use lib.Pow.{pow-add}
-use Rattle.fast_float.proofs.ExactLemmas.{ten_to_pos}
-use Rattle.fast_float.proofs.Patterns.{neg-round}
-use Rattle.fast_float.proofs.Rows.{AllDigits-append}
+use Rattle.fast_float.proofs.{ExactLemmas.ten_to_pos, Patterns.neg-round, Rows.AllDigits-append}
 
 pub one_more : (bs : List ℕ) (i : ℕ) → i < length bs → AllDigits 10 (take i bs) → digit_value (get_or bs i 0) < 10 → AllDigits 10 (take (i + 1) bs)
 one_more [] i h all digit = absurd (omega (arith, h))

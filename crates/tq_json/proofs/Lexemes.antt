@@ -4,21 +4,15 @@
 use Rattle.std.proofs.Common.{◌≡◌, ℕ, zero, suc, ◌+◌, ◌-◌, ◌<◌, ◌≤◌, Bool, true, false, cond, ◌==◌, ◌||◌, ◌&&◌, List, [], ◌∷◌, length, take, drop, get_or, length-drop, Some, None, option_and_then, ◌⊎◌, inl, inr, refl, sym, ap, ◌∙◌, subst, arith, ◌*◌, ◌%◌, ◌^◌, ltb, not, eqb, T, map, ap₂, w8, Fits, not-suc-le-zero}
 use Rattle.std.proofs.lemmas.List.{drop-drop, drop_more, get_or-drop, get_or_default, length-drop, length-map}
 use Rattle.std.proofs.lemmas.Bool.{false≢true, true≢false, eqb-true, or_cases, or_parts, and_parts, not-true, ne_eqb, le-leb, eq-eqb, cases_order}
-use Rattle.std.proofs.lemmas.Str.Parse.{digit_from_value}
-use Rattle.std.specs.List.{prefix_len, list_all}
-use Rattle.std.specs.Char.{is_ascii_digit, digit_value}
+use Rattle.std.proofs.lemmas.{Str.Parse.digit_from_value, List.Folds.prefix_len-append, List.Sums.prefix_len-le-length}
+use Rattle.std.proofs.lemmas.Simd.{chunk-drop, length-chunk, leading_from_mask_l, trailing_mask_l, mask_l-mod}
+use Rattle.std.specs.{List.{prefix_len, list_all}, Char.{is_ascii_digit, digit_value}}
 use Rattle.std.specs.Str.Parse.{AllDigits, digits_value}
-use Rattle.json.specs.Token.{Token, bad}
-use Rattle.json.specs.Text.{content, plain, after_backslash, prepend}
+use Rattle.json.specs.{Token.{Token, bad}, Text.{content, plain, after_backslash, prepend}, Align.is_blank, Scan.xor}
 use Rattle.json.specs.Word.{head, word, is_operator, is_space, after_minus, after_sign, after_digits, after_whole, after_fraction, after_exponent, after_number, number_before}
 use Rattle.json.specs.Lex.{Lexeme, token, Class, quote, backslash, operator, space, other, class, operator_lexeme, string_token, Mode, between, in_word, in_string, lex_byte, lex}
-use Rattle.json.specs.Align.{is_blank}
 use Rattle.json.specs.Run.{is_plain}
 use Rattle.tq_json.specs.Plain.{IsAtLexeme, IsCounted, IsQuoted, IsKeyFirst}
-use Rattle.std.proofs.lemmas.Simd.{chunk-drop, length-chunk, leading_from_mask_l, trailing_mask_l, mask_l-mod}
-use Rattle.std.proofs.lemmas.List.Folds.{prefix_len-append}
-use Rattle.std.proofs.lemmas.List.Sums.{prefix_len-le-length}
-use Rattle.json.specs.Scan.{xor}
 use lib.Bits.{bit_or}
 use lib.Lanes.{chunk, mask_l, zip2, top, Each1}
 use lib.Count.{count_trailing_zeros}

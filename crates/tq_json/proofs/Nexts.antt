@@ -2,27 +2,21 @@
 -- the members of a reader, one at a time. The next value by its first token, and what is refused with a part of it. Passing over
 -- what is open, value by value, with the kinds of all that are open in the bits of a number.
 use Rattle.std.proofs.Common.{◌≡◌, List, [], ◌++◌, Option, Some, None, refl, ℕ, zero, suc, ◌-◌, ◌<◌, ◌≤◌, length, option_map, option_and_then, ap, ◌∙◌, ◌∷◌, sym, arith, Bool, Result, Ok, Err, true, false, subst, rules, ◌+◌, ◌*◌, ◌/◌, ◌%◌, ◌^◌, ◌==◌, not, cond}
-use Rattle.json.specs.Token.{Token}
-use Rattle.json.specs.Json as json
+use Rattle.std.proofs.{lemmas.Bool.{false≢true, true≢false}, lemmas.Simd.mask_l-lt, Math.Nat.pow-le-pow_right}
+use Rattle.json.specs.{Token.Token, Reads.token_of}
 use Rattle.json.specs.Json.{Parse, parse_map, after_end_array, read_key, items_step, items, members, if_last, members_step, value}
+use Rattle.json.specs.Json as json
 use Rattle.json.proofs.Grammar as grammar
 use Rattle.json.proofs.Grammar.{items_more, members_no_key, members_more, left, read_key-shorter, skip_value-shorter, items_fail, left_some, value_is, value-begin_array, value-begin_object, left-parse_map}
 use Rattle.serde_json.specs.Data.{Data, array, object, no_items, item, Members, no_members, put, Num, null, boolean, number, string, Items}
 use Rattle.serde_json.specs.Read.{of_json, of_items, of_members, converted, number_of}
-use Rattle.std.specs.Option.{option_and_then, is_some, option_map}
+use Rattle.serde_json.specs.Find.{as_str, as_bool, as_number, as_u64, as_array}
+use Rattle.std.specs.{Option.{option_and_then, is_some, option_map}, Prelude.{⊤, IfOk}, Borrow.Bor, Bool.MatchBool}
 use Rattle.tq_json.specs.Next.{next, next_items, next_members, Found, HasNoNames, behind, tokens_behind, tokens_behind_next, Begins, Ends, GoesOn, Fails}
-use Rattle.std.specs.Prelude.{⊤, IfOk}
-use Rattle.std.specs.Borrow.{Bor}
-use Rattle.json.specs.Reads.{token_of}
 use Rattle.json.specs.declared.token.Token as read
 use Rattle.json.specs.declared.token.Token.TheVariants as kinds
-use Rattle.serde_json.specs.Find.{as_str, as_bool, as_number, as_u64, as_array}
-use Rattle.std.proofs.lemmas.Bool.{false≢true, true≢false}
 use lib.Lanes.{mask_l}
 use mir.Val.{bool_byte}
-use Rattle.std.proofs.lemmas.Simd.{mask_l-lt}
-use Rattle.std.proofs.Math.Nat.{pow-le-pow_right}
-use Rattle.std.specs.Bool.{MatchBool}
 
 -- what was read so far, before the rest
 abbrev pub with_front : {A : Type 0} → List A → Option (List A) → Option (List A)

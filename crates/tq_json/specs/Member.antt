@@ -1,12 +1,10 @@
 -- What depends on the format of a file: the rest of the form is the same in both. What stands in an object of the form
 -- at a name. Names of files, and contents as hexadecimal text.
 use Rattle.std.specs.Prelude.{ℕ, ◌==◌, Option, Some, None, cond, Bool, List, [], ◌∷◌, ◌&&◌, length, nat_le, Result, Ok, Err}
-use Rattle.tq_json.specs.declared.format.Format.{Format}
-use Rattle.tq_json.specs.declared.format.Format.TheVariants.{One, Two}
-use Rattle.std.specs.Option.{option_and_then}
+use Rattle.std.specs.{Option.option_and_then, List.list_all}
+use Rattle.tq_json.specs.declared.format.{Format.Format, Format.TheVariants.{One, Two}}
 use Rattle.serde_json.specs.Data.{Data, Items, no_items, item}
 use Rattle.serde_json.specs.Find.{get, as_str, as_number, as_u64, as_bool, as_array}
-use Rattle.std.specs.List.{list_all}
 use Rattle.hex.specs.Hex.{decode_of}
 use Rattle.tq_store.specs.Names.{is_name_byte, starts_with_letter}
 

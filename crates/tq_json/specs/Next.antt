@@ -2,12 +2,10 @@
 -- list or an object that is open.
 use Rattle.std.specs.Prelude.{◌≡◌, ℕ, Bool, List, length, Option, Some, None, option_map, option_and_then, IsUtf8, zero, suc, true, false, ◌∷◌}
 use Rattle.std.specs.Borrow.{Bor}
-use Rattle.json.specs.Token.{Token}
-use Rattle.json.specs.Json.{value, items, members}
+use Rattle.json.specs.{Token.Token, Json.{value, items, members}, Reads.token_of}
 use Rattle.serde_json.specs.Data.{Num, Data, Items, Members, no_members}
 use Rattle.serde_json.specs.Read.{number_of, of_json, of_items, of_members, converted}
 use Rattle.serde_json.specs.Find.{get, as_u64, as_str, as_number, as_bool}
-use Rattle.json.specs.Reads.{token_of}
 use Rattle.json.specs.declared.token.Token as read
 
 -- the value that the tokens begin with, where it is JSON with each number in range, and the tokens behind it

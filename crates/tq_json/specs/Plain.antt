@@ -1,17 +1,10 @@
 -- The model of the reader, and of the lexemes that it reads itself: those of a text as the product writes it.
 use Rattle.std.specs.Prelude.{◌≡◌, ◌+◌, ◌≢◌, ◌<◌, ◌≤◌, ◌-◌, ℕ, List, [], ◌∷◌, length, take, drop, get_or, Bool, true, false, Option, Some, None, IsTrue, ⊤}
-use Rattle.std.specs.List.{list_all}
-use Rattle.json.specs.Run.{is_plain}
-use Rattle.std.specs.Str.Parse.{AllDigits, digits_value}
-use Rattle.json.specs.Token.{Token, bad}
-use Rattle.json.specs.Text.{content, plain}
-use Rattle.json.specs.Word.{head}
+use Rattle.std.specs.{List.list_all, Str.Parse.{AllDigits, digits_value}}
+use Rattle.json.specs.{Run.is_plain, Token.{Token, bad}, Text.{content, plain}, Word.head, Align.is_blank}
 use Rattle.json.specs.Lex.{token, between, lex, class, fresh, after_value, after_comma, punctuate}
-use Rattle.json.specs.Align.{is_blank}
-use Rattle.tq_json.specs.declared.reader.Place.{Place}
-use Rattle.tq_json.specs.declared.reader.Place.TheVariants.{Fresh, AfterValue, AfterComma, Failed}
-use Rattle.tq_json.specs.declared.reader.Outlook.{Outlook}
-use Rattle.tq_json.specs.declared.reader.Outlook.TheVariants.{Ends, Refused}
+use Rattle.tq_json.specs.declared.reader.{Place.Place, Place.TheVariants.{Fresh, AfterValue, AfterComma, Failed}}
+use Rattle.tq_json.specs.declared.reader.{Outlook.Outlook, Outlook.TheVariants.{Ends, Refused}}
 
 -- no space stands before the next lexeme
 abbrev pub IsAtLexeme : List ℕ → Type 0

@@ -1,7 +1,6 @@
 -- The invariant of `Reader`.
 use Rattle.std.specs.Prelude.{◌≡◌, None, IsSome, IsTrue}
-use Rattle.tq_json.specs.Plain.{IsAtLexeme, NotBeforeComma, goes_at}
-use Rattle.tq_json.specs.declared.reader.Reader.TheInside.{Inside}
+use Rattle.tq_json.specs.{Plain.{IsAtLexeme, NotBeforeComma, goes_at}, declared.reader.Reader.TheInside.Inside}
 
 pub record IsReader (a : Inside) : Type 0 where
   pub at : IsAtLexeme a.text.now

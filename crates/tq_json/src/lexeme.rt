@@ -3,8 +3,7 @@
 //! A text is kept from its next lexeme on: it begins with no space.
 
 ghost use Rattle.std.specs.Prelude.{◌≡◌, ◌||◌, ◌==◌, drop, IfSome, IsTrue};
-ghost use Rattle.json.specs.Word.{head, is_space};
-ghost use Rattle.json.specs.Lex.{between, lex, class, operator};
+ghost use Rattle.json.specs.{Word.{head, is_space}, Lex.{between, lex, class, operator}};
 ghost use Rattle.tq_json.specs.Plain.{IsAtLexeme, IsQuoted, IsCounted, IsKeyFirst};
 
 use crate::run::{byte_at, plain_end};

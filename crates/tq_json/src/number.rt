@@ -1,12 +1,9 @@
 //! Numbers, and whether they are in range.
 
 ghost use Rattle.std.specs.Prelude.{◌≡◌, ◌*◌, ◌^◌, ◌<◌, ◌≤◌, ◌==◌, false, true, length, slice_index, IsTrue, IfSome};
-ghost use Rattle.std.specs.Bool.{OnTrue};
-ghost use Rattle.std.specs.Option.{is_some, option_and_then};
-ghost use Rattle.std.specs.Str.Parse.{AllDigits, digits_value};
+ghost use Rattle.std.specs.{Bool.OnTrue, Option.{is_some, option_and_then}, Str.Parse.{AllDigits, digits_value}};
 ghost use Rattle.fast_float.specs.Text.{digits_of, tens_up, tens_down};
-ghost use Rattle.serde_json.specs.Find.{as_u64};
-ghost use Rattle.serde_json.specs.Read.{number_of, number_from, float_of};
+ghost use Rattle.serde_json.specs.{Find.as_u64, Read.{number_of, number_from, float_of}};
 
 use fast_float::Numeral;
 

@@ -1,10 +1,8 @@
 //! Arrays and objects, opened.
 
-ghost use Rattle.std.specs.Prelude.{◌≡◌, ◌<◌, ◌-◌, length, None, Err, IfOk, OnOk};
-ghost use Rattle.std.specs.Bool.{MatchBool};
+ghost use Rattle.std.specs.{Prelude.{◌≡◌, ◌<◌, ◌-◌, length, None, Err, IfOk, OnOk}, Bool.MatchBool};
 ghost use Rattle.json.specs.Json.{parse_map};
-ghost use Rattle.serde_json.specs.Data.{array, object};
-ghost use Rattle.serde_json.specs.Find.{as_array};
+ghost use Rattle.serde_json.specs.{Data.{array, object}, Find.as_array};
 ghost use Rattle.tq_json.specs.Next.{next, next_items, next_members, Found, HasNoNames};
 
 use crate::fault::NotRead;

@@ -6,10 +6,9 @@
 ghost use Rattle.std.specs.Prelude.{◌≡◌, ◌∷◌, None, Some, Err, IsTrue, IfOk, OnErr, MatchOption, option_map};
 ghost use Rattle.std.specs.Bool.{MatchBool};
 ghost use Rattle.json.specs.Token as tokens;
-ghost use Rattle.json.specs.Lex.{after_value, between, lex, punctuate};
-ghost use Rattle.json.specs.Lex as grammar;
-ghost use Rattle.json.specs.Json.{after_end_array, read_key};
+ghost use Rattle.json.specs.{Lex.{after_value, between, lex, punctuate}, Json.{after_end_array, read_key}};
 ghost use Rattle.json.specs.Reads.{Yields};
+ghost use Rattle.json.specs.Lex as grammar;
 ghost use Rattle.tq_json.specs.Plain.{IsAtLexeme, IsNumberFirst, NotBeforeComma, Foresees, begins_at, closes_at, goes_at, is_plain_name, tokens_at};
 
 use crate::fault::NotRead;
@@ -60,8 +59,7 @@ pub struct Reader<'a> {
 impl<'a> Model for Reader<'a> {
     ghost use Rattle.std.specs.Prelude.{List};
     ghost use Rattle.json.specs.Token.{Token as SpecToken, tokens_code};
-    ghost use Rattle.tq_json.specs.Plain.{tokens_of};
-    ghost use Rattle.tq_json.specs.Readers.{IsReader};
+    ghost use Rattle.tq_json.specs.{Plain.tokens_of, Readers.IsReader};
 
     ghost Value = { List SpecToken };
 

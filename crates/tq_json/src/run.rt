@@ -1,10 +1,7 @@
 //! Bytes of a text, and passing over those of a string that mean themselves, 16 at a time.
 
-ghost use Rattle.std.specs.Prelude.{◌≡◌, ◌+◌, ◌≤◌, length, drop, get_or, map};
-ghost use Rattle.std.specs.List.{prefix_len};
-ghost use Rattle.std.specs.Simd.Lanes.{mask_l};
-ghost use Rattle.json.specs.Word.{head};
-ghost use Rattle.json.specs.Run.{is_stop, is_plain};
+ghost use Rattle.std.specs.{Prelude.{◌≡◌, ◌+◌, ◌≤◌, length, drop, get_or, map}, List.prefix_len, Simd.Lanes.mask_l};
+ghost use Rattle.json.specs.{Word.head, Run.{is_stop, is_plain}};
 
 use std::simd::prelude::*;
 

@@ -1,7 +1,6 @@
 //! Words that are compared, and bytes as UTF-8.
 
-ghost use Rattle.std.specs.Prelude.{◌≡◌, IsUtf8, MatchOption};
-ghost use Rattle.std.specs.Str.{bytes_eq};
+ghost use Rattle.std.specs.{Prelude.{◌≡◌, IsUtf8, MatchOption}, Str.bytes_eq};
 ghost use Rattle.tq_json.specs.Next.{IsTextOfBytes};
 
 /// Whether the two are the same. It is compiled into its callers, for a text that is known to them.

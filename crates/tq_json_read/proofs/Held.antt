@@ -1,27 +1,21 @@
 -- What is read is what the types hold. Lists within a limit, and of as many values as servers.
-use Rattle.std.specs.Prelude.{⊤}
+use Rattle.std.specs.{Prelude.⊤, List.All, Str.bytes_eq}
 use Rattle.std.proofs.Common.{◌≡◌, nat_lt, suc, ◌+◌, ◌^◌, ◌==◌, ◌≤◌, ℕ, Bool, true, false, cond, codes, List, ◌∷◌, length, Option, Some, None, refl, sym, ap, subst, ◌∙◌, nat_le, arith}
-use Rattle.std.specs.List.{All}
-use Rattle.std.specs.Str.{bytes_eq}
 use Rattle.std.proofs.lemmas.Bool.{eqb-true, ltb-false, lt-leb, le-leb, ltb-true, eq-eqb, false≢true}
 use Rattle.std.proofs.lemmas.List.Elements.{All-nil, All-cons}
-use Rattle.serde_json.specs.Data.{Data, Items, no_items, item}
-use Rattle.serde_json.specs.Find.{get, as_array}
+use Rattle.serde_json.specs.{Data.{Data, Items, no_items, item}, Find.{get, as_array}}
 use Rattle.tq_shape.specs.Limits.{LimitsView}
 use Rattle.tq_coterie.specs.Coterie.{ServerList, is_quorum}
-use Rattle.tq_live.specs.declared.view.ViewReply.{ViewReply}
-use Rattle.tq_live.specs.declared.view.ViewReply.TheVariants.{Chosen, Refused}
+use Rattle.tq_live.specs.declared.view.{ViewReply.ViewReply, ViewReply.TheVariants.{Chosen, Refused}}
 use Rattle.tq_live.specs.declared.view.ViewRefusal.TheVariants.{Blocked}
 use Rattle.tq_node.specs.NodeJournal.{NodeEntry}
 use Rattle.tq_desk.specs.DeskJournal.{DeskEntry}
 use Rattle.tq_tables.specs.Journals.{ViewEntry, IsOfTree, AreJournals}
-use Rattle.tq_json.specs.declared.format.Format.{Format}
-use Rattle.tq_json.specs.Member.{◌>>=◌, text_at, number_at, items_at, each}
+use Rattle.tq_json.specs.{declared.format.Format.Format, Member.{◌>>=◌, text_at, number_at, items_at, each}}
 use Rattle.tq_json_read.specs.Views as views
-use Rattle.tq_json_read.specs.declared.view_reply.Servers.{Servers}
+use Rattle.tq_json_read.specs.{declared.view_reply.Servers.Servers, Slots.{within_cap, list_of, of_count}}
 use Rattle.tq_json_read.specs.Frame.{count, few, within, journal, node_entry, desk_entry, view_entry, one_each}
 use Rattle.tq_json_read.specs.Frame as frame
-use Rattle.tq_json_read.specs.Slots.{within_cap, list_of, of_count}
 
 -- what is read, where it is there, has the property
 abbrev pub Gives : {A : Type 0} → Option A → (A → Type 0) → Type 0

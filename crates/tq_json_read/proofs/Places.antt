@@ -3,35 +3,24 @@
 -- list is none.
 -- Members that are taken in the order of their names: what stands in the slots of those names.
 use Rattle.std.proofs.Common.{◌≡◌, ℕ, List, Option, Some, None, refl, sym, ap, ◌∙◌, Bool, true, false, cond, ◌-◌, ◌<◌, ◌≤◌, zero, suc, ◌||◌, ◌+◌, [], ◌∷◌, length, get_or, drop, arith, ◌^◌, ◌==◌, nat_lt, codes, ◌≢◌, subst}
-use Rattle.serde_json.specs.Data.{Data, Members, put}
-use Rattle.tq_json_read.specs.Frame.{IsAlone}
 use Rattle.std.proofs.lemmas.Bool.{false≢true, and_parts, or_parts, not-true, false_from_ne_true, le-leb, leb-false}
-use Rattle.std.specs.Option.{SomeIff}
-use Rattle.std.specs.List.{Contains, All}
-use Rattle.std.specs.Cmp.Lexicographic.{nat_list_eq_equiv, same_text}
-use Rattle.std.proofs.lemmas.Map.Views.{list_any-from_Contains, Contains-from_any}
-use Rattle.tq_coterie.specs.Coterie.{ServerList, coterie, is_quorum, union_of, members, with_server}
-use Rattle.tq_json_read.specs.Views.{member_of}
-use Rattle.std.specs.Prelude.{◌&&◌, nat_le, IfOk, MatchOption, Result, Ok, Err, ◌||◌}
-use Rattle.std.specs.Borrow.{Bor}
-use Rattle.std.specs.Str.{bytes_eq}
-use Rattle.std.proofs.lemmas.List.{drop_more, drop_all}
-use Rattle.std.proofs.lemmas.Slice.Eq.{bytes_eq-Decides}
-use Rattle.json.specs.Token.{Token}
-use Rattle.tq_json.specs.Next.{Found, next}
-use Rattle.tq_json_read.specs.Slots.{Names, with, Slots, slots_at, with_slot, texts, IsNameAt, is_among, are_distinct, within_cap, members_behind, HasNone, SameBut, IsNameTaken, IsTakenInOrder}
-use Rattle.std.proofs.lemmas.List.Elements.{All-contains}
-use Rattle.std.proofs.lemmas.Nat.{pow_pos}
-use native.Mathlib.Nat.{two-pow-succ}
+use Rattle.std.proofs.lemmas.{Map.Views.{list_any-from_Contains, Contains-from_any}, List.{drop_more, drop_all}}
+use Rattle.std.proofs.lemmas.{Slice.Eq.bytes_eq-Decides, List.Elements.All-contains, Nat.pow_pos}
 use Rattle.std.proofs.Math.Pow.{pow_mono}
+use Rattle.serde_json.specs.{Data.{Data, Members, put}, Find.get_member}
+use Rattle.tq_json_read.specs.{Frame.IsAlone, Views.member_of}
+use Rattle.tq_json_read.specs.Slots.{Names, with, Slots, slots_at, with_slot, texts, IsNameAt, is_among, are_distinct, within_cap, members_behind, HasNone, SameBut, IsNameTaken, IsTakenInOrder}
+use Rattle.std.specs.{Option.SomeIff, List.{Contains, All}, Cmp.Lexicographic.{nat_list_eq_equiv, same_text}}
+use Rattle.std.specs.{Prelude.{◌&&◌, nat_le, IfOk, MatchOption, Result, Ok, Err, ◌||◌}, Borrow.Bor, Str.bytes_eq}
+use Rattle.tq_coterie.specs.Coterie.{ServerList, coterie, is_quorum, union_of, members, with_server}
+use Rattle.json.specs.{Token.Token, Json.read_key}
+use Rattle.tq_json.specs.{Next.{Found, next}, Member.◌>>=◌}
+use native.Mathlib.Nat.{two-pow-succ}
 use Rattle.tq_live.specs.declared.view.ViewReply.TheVariants.{CostSet, Marked, Chosen, Refused}
 use Rattle.tq_live.specs.declared.view.ViewRefusal.TheVariants.{NoSuchServer, BadCost, Blocked}
 use Rattle.tq_coterie.proofs.Members.{members-all}
-use Rattle.tq_json.specs.Member.{◌>>=◌}
 use Rattle.tq_json_read.specs.Views as views
-use Rattle.json.specs.Json.{read_key}
 use Rattle.tq_json.proofs.Nexts.{members_go}
-use Rattle.serde_json.specs.Find.{get_member}
 use Rattle.serde_json.proofs.Views.{get_member-put, get_member-put_other}
 
 pub alone-once : {X : Type 0} (form : Data → Option X) (text : List ℕ) (x y : Option X) → IsAlone form text x → IsAlone form text y → x ≡ y

@@ -4,17 +4,14 @@ use Rattle.std.proofs.Common.{◌≡◌, ℕ, Bool, true, false, not, ◌&&◌, 
 use Rattle.std.proofs.lemmas.Bool.{false≢true, and_parts, eqb-true}
 use lib.Dec.{eqb}
 use denote.Enum.Bare as Bare
-use Rattle.tq_json.specs.contracts.format.Format.{the_type}
-use Rattle.tq_json.specs.declared.format.Format.TheVariants.{One, Two}
+use Rattle.tq_json.specs.{contracts.format.Format.the_type, declared.format.Format.TheVariants.{One, Two}}
+use Rattle.tq_json.specs.{declared.format.Format.Format, Member.{format_of, ◌>>=◌, number_at, format_number}}
 use Rattle.serde_json.specs.Data.{Data}
 use Rattle.tq_shape.specs.Limits.{LimitsView}
 use Rattle.tq_node.specs.NodeJournal.{NodeEntry}
 use Rattle.tq_desk.specs.DeskJournal.{DeskEntry}
 use Rattle.tq_tables.specs.Journals.{JournalsView, ViewEntry, AreJournals}
-use Rattle.tq_json.specs.declared.format.Format.{Format}
-use Rattle.tq_json.specs.Member.{format_of, ◌>>=◌, number_at, format_number}
-use Rattle.tq_json_read.specs.declared.entry.Plan.{Plan}
-use Rattle.tq_json_read.specs.declared.file.FileFields.{FileFields}
+use Rattle.tq_json_read.specs.declared.{entry.Plan.Plan, file.FileFields.FileFields}
 use Rattle.tq_json_read.specs.Frame.{levels_at, limits_at, servers_at, desk_at, view_at, journals_in, journals_by, journals_of, plan_of, IsInFormat, AreBothRead}
 use Rattle.tq_json_read.specs.Slots.{names_of, file_fields, journals_from, IsPlanned}
 use Rattle.tq_json_read.proofs.Held.{read-are-journals}

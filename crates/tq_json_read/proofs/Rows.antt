@@ -1,17 +1,11 @@
 -- Values that were taken one at a time, before those that are left.
 use Rattle.std.proofs.Common.{◌≡◌, ◌≤◌, ◌<◌, ℕ, Bool, true, false, cond, List, [], ◌∷◌, ◌++◌, length, Option, Some, None, refl, sym, ap, ◌∙◌, arith, append_assoc, append-nil, lt_of_not-le}
-use Rattle.std.specs.Prelude.{◌↔◌, IsTrue, MatchOption}
-use Rattle.std.proofs.lemmas.Bool.{lt-leb, le-leb, false≢true}
-use Rattle.std.proofs.lemmas.List.{length-append}
-use Rattle.json.specs.Token.{Token}
-use Rattle.json.specs.Json.{parse_map}
-use Rattle.serde_json.specs.Data.{Data, Items, no_items, item, Members, put}
-use Rattle.serde_json.specs.Find.{get_member}
+use Rattle.std.proofs.lemmas.{Bool.{lt-leb, le-leb, false≢true}, List.length-append, Slice.Eq.bytes_eq-Decides}
+use Rattle.std.specs.{Prelude.{◌↔◌, IsTrue, MatchOption}, Str.bytes_eq}
+use Rattle.json.specs.{Token.Token, Json.parse_map}
+use Rattle.serde_json.specs.{Data.{Data, Items, no_items, item, Members, put}, Find.get_member}
 use Rattle.serde_json.proofs.Views.{get_member-put, get_member-put_other}
-use Rattle.std.specs.Str.{bytes_eq}
-use Rattle.std.proofs.lemmas.Slice.Eq.{bytes_eq-Decides}
-use Rattle.tq_json.specs.Next.{HasNoNames}
-use Rattle.tq_json.specs.Member.{◌>>=◌, each}
+use Rattle.tq_json.specs.{Next.HasNoNames, Member.{◌>>=◌, each}}
 use Rattle.tq_json.proofs.Nexts.{with_front, no_front}
 use Rattle.tq_json_read.specs.Slots.{names_of, with, within_cap}
 

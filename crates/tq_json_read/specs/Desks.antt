@@ -1,12 +1,8 @@
 -- What a commit cites: grants, operations and votes. What the desk is asked, and what it replies.
-use Rattle.std.specs.Prelude.{ℕ, List, Option, Some, None, cond, codes, ◌==◌, option_map}
-use Rattle.std.specs.Str.{bytes_eq}
+use Rattle.std.specs.{Prelude.{ℕ, List, Option, Some, None, cond, codes, ◌==◌, option_map}, Str.bytes_eq}
 use Rattle.serde_json.specs.Data.{Data}
-use Rattle.tq_evidence.specs.declared.grant.Grant.{Grant}
-use Rattle.tq_evidence.specs.declared.op.Op.{Op}
-use Rattle.tq_evidence.specs.declared.op.OpKind.{OpKind}
-use Rattle.tq_evidence.specs.declared.op.OpKind.TheVariants.{Read, Write}
-use Rattle.tq_evidence.specs.declared.vote.Vote.{Vote}
+use Rattle.tq_evidence.specs.declared.{grant.Grant.Grant, op.Op.Op, op.OpKind.OpKind, vote.Vote.Vote}
+use Rattle.tq_evidence.specs.{declared.op.OpKind.TheVariants.{Read, Write}, Evidence.rule_at}
 use Rattle.tq_store.specs.declared.write.Write as stored
 use Rattle.tq_locks.specs.declared.mode.Mode.{Mode}
 use Rattle.tq_asks.specs.declared.ask.HeldLock.{HeldLock}
@@ -14,12 +10,9 @@ use Rattle.tq_json.specs.declared.format.Format.{Format}
 use Rattle.tq_json.specs.Member.{file_at, content_at, ◌>>=◌, text_at, number_at, items_at, each}
 use Rattle.tq_json_read.specs.Locking.{mode_at, held_at, writes_at, verdict_at}
 use Rattle.tq_asks.specs.declared.ask.Verdict as asks
-use Rattle.tq_evidence.specs.Evidence.{rule_at}
-use Rattle.tq_desk.specs.declared.ask.DeskAsk.{DeskAsk}
-use Rattle.tq_desk.specs.declared.ask.DeskAsk.TheVariants.{Begin, Commit, Resolve}
-use Rattle.tq_desk.specs.declared.ask.DeskRefusal.{DeskRefusal}
+use Rattle.tq_desk.specs.declared.ask.{DeskAsk.DeskAsk, DeskAsk.TheVariants.{Begin, Commit, Resolve}}
+use Rattle.tq_desk.specs.declared.ask.{DeskRefusal.DeskRefusal, DeskReply.DeskReply}
 use Rattle.tq_desk.specs.declared.ask.DeskRefusal.TheVariants.{NoSuchTxn, Decided, TooManyOps, BadEvidence, TooManyFiles}
-use Rattle.tq_desk.specs.declared.ask.DeskReply.{DeskReply}
 use Rattle.tq_desk.specs.declared.ask.DeskReply.TheVariants.{Txn, Verdict, Committed, Refused}
 
 abbrev pub grant_from : Option (List ℕ) → Option Mode → Option ℕ → Option ℕ → Option ℕ → Option Grant

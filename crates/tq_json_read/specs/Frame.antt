@@ -2,23 +2,16 @@
 -- part. A file: its format, the levels of the tree, the limits, and the journals of all parts. What the entries of a
 -- file are read by. The form of journal files is that of either format, and no value is of both.
 use Rattle.std.specs.Prelude.{◌≡◌, ℕ, List, Option, Some, None, Result, Ok, Err, IsUtf8, ⊤, suc, nat_lt, cond, codes, ◌+◌, ◌^◌, ◌==◌, ◌&&◌, nat_le, ◌↔◌, ◌⊎◌}
-use Rattle.serde_json.specs.Data.{Data, Items, no_items, item}
-use Rattle.serde_json.specs.Read.{read}
-use Rattle.tq_json_read.specs.declared.fault.ReadFault.{ReadFault}
-use Rattle.tq_json_read.specs.declared.fault.ReadFault.TheVariants.{Memory, NotJson, NotJournals}
-use Rattle.serde_json.specs.Find.{get, as_array}
-use Rattle.tq_shape.specs.declared.part.Entry.{Entry}
+use Rattle.serde_json.specs.{Data.{Data, Items, no_items, item}, Read.read, Find.{get, as_array}}
+use Rattle.tq_json_read.specs.declared.fault.{ReadFault.ReadFault, ReadFault.TheVariants.{Memory, NotJson, NotJournals}}
+use Rattle.tq_json_read.specs.{Nodes.{node_ask, node_reply}, Desks.{desk_ask, desk_reply}, Views.{view_ask, view_reply}}
+use Rattle.tq_json_read.specs.declared.entry.Plan.{Plan}
+use Rattle.tq_shape.specs.{declared.part.Entry.Entry, Limits.LimitsView}
 use Rattle.tq_node.specs.NodeJournal.{NodeEntry}
 use Rattle.tq_desk.specs.DeskJournal.{DeskEntry}
 use Rattle.tq_tables.specs.Journals.{ViewEntry, JournalsView}
-use Rattle.tq_json.specs.declared.format.Format.{Format}
-use Rattle.tq_json_read.specs.Nodes.{node_ask, node_reply}
-use Rattle.tq_json_read.specs.Desks.{desk_ask, desk_reply}
-use Rattle.tq_json_read.specs.Views.{view_ask, view_reply}
+use Rattle.tq_json.specs.declared.format.{Format.Format, Format.TheVariants.{Two, One}}
 use Rattle.tq_json.specs.Member.{◌>>=◌, each, number_at, items_at, format_of, format_number, most_levels}
-use Rattle.tq_shape.specs.Limits.{LimitsView}
-use Rattle.tq_json.specs.declared.format.Format.TheVariants.{Two, One}
-use Rattle.tq_json_read.specs.declared.entry.Plan.{Plan}
 
 -- the bytes are a text, and the value is what is read of it
 abbrev pub IsJson : List ℕ → Data → Type 0

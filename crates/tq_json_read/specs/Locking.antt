@@ -1,14 +1,9 @@
 -- Modes, locks that a vote lists, writes, citations and verdicts.
-use Rattle.std.specs.Prelude.{ℕ, List, Option, Some, None, option_map, cond, codes}
-use Rattle.std.specs.Str.{bytes_eq}
-use Rattle.serde_json.specs.Data.{Data}
-use Rattle.serde_json.specs.Find.{get}
+use Rattle.std.specs.{Prelude.{ℕ, List, Option, Some, None, option_map, cond, codes}, Str.bytes_eq}
+use Rattle.serde_json.specs.{Data.Data, Find.get}
 use Rattle.tq_store.specs.declared.write.Write.{Write}
-use Rattle.tq_locks.specs.declared.mode.Mode.{Mode}
-use Rattle.tq_locks.specs.declared.mode.Mode.TheVariants.{Shared, Exclusive}
-use Rattle.tq_asks.specs.declared.ask.CitedVote.{CitedVote}
-use Rattle.tq_asks.specs.declared.ask.HeldLock.{HeldLock}
-use Rattle.tq_asks.specs.declared.ask.Verdict.{Verdict}
+use Rattle.tq_locks.specs.declared.mode.{Mode.Mode, Mode.TheVariants.{Shared, Exclusive}}
+use Rattle.tq_asks.specs.declared.ask.{CitedVote.CitedVote, HeldLock.HeldLock, Verdict.Verdict}
 use Rattle.tq_asks.specs.declared.ask.Verdict.TheVariants.{Abort, Commit}
 use Rattle.tq_json.specs.declared.format.Format.{Format}
 use Rattle.tq_json.specs.Member.{file_at, content_at, ◌>>=◌, text_at, number_at, items_at, each}

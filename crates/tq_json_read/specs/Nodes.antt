@@ -1,24 +1,16 @@
 -- What servers are asked. What servers reply.
-use Rattle.std.specs.Prelude.{nat_le, ℕ, List, Option, Some, None, option_map, cond, codes, ◌==◌}
-use Rattle.std.specs.Str.{bytes_eq}
-use Rattle.serde_json.specs.Data.{Data}
-use Rattle.serde_json.specs.Find.{get}
-use Rattle.tq_asks.specs.declared.ask.CitedVote.{CitedVote}
-use Rattle.tq_asks.specs.declared.ask.NodeAsk.{NodeAsk}
-use Rattle.tq_asks.specs.declared.ask.NodeAsk.TheVariants.{Work, Crash, Return, CrashIn}
-use Rattle.tq_asks.specs.declared.ask.WorkAsk.{WorkAsk}
+use Rattle.std.specs.{Prelude.{nat_le, ℕ, List, Option, Some, None, option_map, cond, codes, ◌==◌}, Str.bytes_eq}
+use Rattle.serde_json.specs.{Data.Data, Find.get}
+use Rattle.tq_asks.specs.declared.ask.{CitedVote.CitedVote, NodeAsk.NodeAsk, WorkAsk.WorkAsk, HeldLock.HeldLock}
+use Rattle.tq_asks.specs.declared.ask.{NodeAsk.TheVariants.{Work, Crash, Return, CrashIn}, NodeRefusal.NodeRefusal}
 use Rattle.tq_asks.specs.declared.ask.WorkAsk.TheVariants.{Lock, Prepare, Decide, Release, Peek, Refresh}
-use Rattle.tq_json.specs.declared.format.Format.{Format}
-use Rattle.tq_json_read.specs.declared.node_ask.WorkMembers.{WorkMembers}
-use Rattle.tq_json.specs.Member.{file_at, content_at, ◌>>=◌, text_at, number_at}
-use Rattle.tq_json_read.specs.Locking.{mode_at, writes_at, verdict_at, citation, held_at}
-use Rattle.tq_store.specs.declared.write.Write.{Write}
-use Rattle.tq_asks.specs.declared.ask.HeldLock.{HeldLock}
-use Rattle.tq_asks.specs.declared.ask.NodeRefusal.{NodeRefusal}
 use Rattle.tq_asks.specs.declared.ask.NodeRefusal.TheVariants.{Down, AlreadyUp, AlreadyDown, Held, Prepared, NotLocked, BadWrites, NotNewer, NothingHere}
 use Rattle.tq_asks.specs.declared.ask.NodeReply.{NodeReply}
 use Rattle.tq_asks.specs.declared.ask.NodeReply.TheVariants.{Granted, Yes, Installed, Discarded, Released, Copy, Refreshed, Crashed, Returned, Refused}
-use Rattle.tq_json_read.specs.declared.node_reply.ReplyMembers.{ReplyMembers}
+use Rattle.tq_json.specs.{declared.format.Format.Format, Member.{file_at, content_at, ◌>>=◌, text_at, number_at}}
+use Rattle.tq_json_read.specs.declared.{node_ask.WorkMembers.WorkMembers, node_reply.ReplyMembers.ReplyMembers}
+use Rattle.tq_json_read.specs.Locking.{mode_at, writes_at, verdict_at, citation, held_at}
+use Rattle.tq_store.specs.declared.write.Write.{Write}
 
 abbrev pub lock : WorkMembers → Option WorkAsk
 lock members = do

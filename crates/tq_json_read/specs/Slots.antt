@@ -2,29 +2,19 @@
 -- the reader's own: what it makes of the values that it found at the names of an object.
 -- Members that are taken in the order of their names, one slot for each of them.
 use Rattle.std.specs.Prelude.{◌≡◌, ◌<◌, get_or, ℕ, zero, suc, Bool, true, false, not, ◌&&◌, ◌||◌, nat_le, cond, List, [], ◌∷◌, length, map, Option, Some, None, ◌≢◌, ⊤, Result, Ok, Err, ◌^◌, ◌==◌, codes, option_map, IsTrue}
-use Rattle.std.specs.Borrow.{Bor}
-use Rattle.std.specs.Option.{option_and_then}
-use Rattle.std.specs.Str.{bytes_eq}
-use Rattle.serde_json.specs.Data.{Data, Members}
-use Rattle.serde_json.specs.Find.{get, as_str, as_array, get_member}
-use Rattle.tq_json.specs.Member.{◌>>=◌, each, number_of}
+use Rattle.std.specs.{Borrow.Bor, Option.option_and_then, Str.bytes_eq, List.list_all}
+use Rattle.serde_json.specs.{Data.{Data, Members}, Find.{get, as_str, as_array, get_member}}
 use Rattle.serde_json.specs.Read.{read, of_members, converted}
+use Rattle.tq_json.specs.{Member.{◌>>=◌, each, number_of}, declared.fault.NotRead.NotRead, Plain.is_plain_name}
 use Rattle.tq_node.specs.NodeJournal.{NodeEntry}
 use Rattle.tq_tables.specs.Journals.{JournalsView}
-use Rattle.tq_json.specs.declared.fault.NotRead.{NotRead}
 use Rattle.tq_json_read.specs.Frame.{journal, node_entry, desk_entry, view_entry, limits, one_each, journals_of, plan_of}
-use Rattle.tq_json_read.specs.Views as views
-use Rattle.tq_json_read.specs.declared.fault.ReadFault.{ReadFault}
-use Rattle.tq_json_read.specs.declared.read.Reading.{Reading}
+use Rattle.tq_json_read.specs.declared.{fault.ReadFault.ReadFault, read.Reading.Reading, entry.Plan.Plan}
 use Rattle.tq_json_read.specs.declared.read.Reading.TheVariants.{Journals, NoJournals, OtherPlan}
-use Rattle.tq_json_read.specs.declared.entry.Plan.{Plan}
-use Rattle.tq_json_read.specs.declared.file.FileFields.{FileFields}
-use Rattle.tq_json_read.specs.declared.file.ServerJournals.{ServerJournals}
+use Rattle.tq_json_read.specs.declared.file.{FileFields.FileFields, ServerJournals.ServerJournals}
 use Rattle.tq_json_read.specs.declared.view_reply.Servers.{Servers}
-use Rattle.std.specs.List.{list_all}
-use Rattle.json.specs.Token.{Token}
-use Rattle.json.specs.Json.{members, value}
-use Rattle.tq_json.specs.Plain.{is_plain_name}
+use Rattle.tq_json_read.specs.Views as views
+use Rattle.json.specs.{Token.Token, Json.{members, value}}
 
 -- what an object has at each name
 abbrev pub Names : Type 0

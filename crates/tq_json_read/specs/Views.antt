@@ -1,20 +1,13 @@
 -- What the view is asked, and what it replies.
-use Rattle.std.specs.Prelude.{ℕ, ◌==◌, Bool, List, Option, Some, None, option_map, cond, codes}
-use Rattle.std.specs.Str.{bytes_eq}
+use Rattle.std.specs.{Prelude.{ℕ, ◌==◌, Bool, List, Option, Some, None, option_map, cond, codes}, Str.bytes_eq}
 use Rattle.serde_json.specs.Data.{Data}
 use Rattle.tq_coterie.specs.Coterie.{ServerList, is_quorum}
-use Rattle.tq_live.specs.Costs.{purpose_of}
-use Rattle.tq_live.specs.declared.purpose.Purpose.{Purpose}
-use Rattle.tq_live.specs.declared.purpose.Purpose.TheVariants.{Read}
-use Rattle.tq_live.specs.declared.view.ViewAsk.{ViewAsk}
-use Rattle.tq_live.specs.declared.view.ViewAsk.TheVariants.{SetCost, Mark, Choose}
-use Rattle.tq_live.specs.declared.view.ViewReply.{ViewReply}
-use Rattle.tq_live.specs.declared.view.ViewReply.TheVariants.{CostSet, Marked, Chosen, Refused}
+use Rattle.tq_live.specs.{Costs.purpose_of, declared.purpose.Purpose.Purpose, declared.purpose.Purpose.TheVariants.Read}
+use Rattle.tq_live.specs.declared.view.{ViewAsk.ViewAsk, ViewAsk.TheVariants.{SetCost, Mark, Choose}}
+use Rattle.tq_live.specs.declared.view.{ViewReply.ViewReply, ViewReply.TheVariants.{CostSet, Marked, Chosen, Refused}}
 use Rattle.tq_live.specs.declared.view.ViewRefusal.TheVariants.{NoSuchServer, BadCost, Blocked}
-use Rattle.tq_json_read.specs.declared.view_ask.ViewMembers.{ViewMembers}
-use Rattle.tq_json_read.specs.declared.view_reply.Servers.{Servers}
-use Rattle.tq_json.specs.declared.format.Format.{Format}
-use Rattle.tq_json.specs.declared.format.Format.TheVariants.{One, Two}
+use Rattle.tq_json_read.specs.declared.{view_ask.ViewMembers.ViewMembers, view_reply.Servers.Servers}
+use Rattle.tq_json.specs.declared.format.{Format.Format, Format.TheVariants.{One, Two}}
 use Rattle.tq_json.specs.Member.{◌>>=◌, text_at, number_at, number_of, flag_at, items_at, each}
 
 -- ---- asks

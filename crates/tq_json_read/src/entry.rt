@@ -1,8 +1,7 @@
 //! An entry of a journal, an ask and its reply, and what entries are read by.
 
 ghost use Rattle.std.specs.Prelude.{◌≡◌, Some, refl};
-ghost use Rattle.tq_json_read.specs.Slots.{made_by};
-ghost use Rattle.tq_json_read.specs.Frame.{entry, entry_from};
+ghost use Rattle.tq_json_read.specs.{Slots.made_by, Frame.{entry, entry_from}};
 
 use crate::object::take_object;
 use crate::parts::{FromReader, Taken};

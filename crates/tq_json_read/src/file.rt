@@ -1,10 +1,8 @@
 //! A file: its format, the levels of the tree, the limits, and the journals of all parts.
-ghost use Rattle.std.specs.Prelude.{◌≡◌, ◌≤◌, map, Some, IfOk, IfSome, refl};
-ghost use Rattle.std.specs.Option.{option_map};
+ghost use Rattle.std.specs.{Prelude.{◌≡◌, ◌≤◌, map, Some, IfOk, IfSome, refl}, Option.option_map};
 ghost use Rattle.tq_json.specs.Member.{most_levels};
-ghost use Rattle.tq_json_read.specs.Frame.{journal};
+ghost use Rattle.tq_json_read.specs.{Frame.journal, Slots.{made_by, names_of}};
 ghost use Rattle.tq_json_read.specs.Frame as frame;
-ghost use Rattle.tq_json_read.specs.Slots.{made_by, names_of};
 ghost use Rattle.tq_json_read.specs.Slots as slots;
 
 use crate::entry::Plan;

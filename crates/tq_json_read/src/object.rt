@@ -2,12 +2,10 @@
 //!
 //! The members of an object mostly come in the order of the names, so the name behind the last one is tried first.
 ghost use Rattle.std.specs.Prelude.{◌≡◌, ◌&&◌, ◌<◌, ◌≤◌, false, drop, length, nat_le, None, Err, IfOk, OnOk, IsTrue, MatchOption};
-ghost use Rattle.serde_json.specs.Find.{get_member};
-ghost use Rattle.tq_json.specs.Next.{next, next_members, Found};
-ghost use Rattle.tq_json.specs.Plain.{is_plain_name};
-ghost use Rattle.tq_json_read.specs.Slots.{Names, names_of, with, slots_for, texts, IsNameAt, is_among, are_distinct, IsNameTaken, are_plain, members_behind};
-ghost use Rattle.serde_json.specs.Data.{Members};
 ghost use Rattle.std.specs.Str.{bytes_eq};
+ghost use Rattle.serde_json.specs.{Find.get_member, Data.Members};
+ghost use Rattle.tq_json.specs.{Next.{next, next_members, Found}, Plain.is_plain_name};
+ghost use Rattle.tq_json_read.specs.Slots.{Names, names_of, with, slots_for, texts, IsNameAt, is_among, are_distinct, IsNameTaken, are_plain, members_behind};
 
 use crate::entry::Plan;
 use crate::parts::{FromReader, Taken};

@@ -1,7 +1,6 @@
 //! What the form makes of the next value of a reader, and lists of such values.
 ghost use Rattle.std.specs.Prelude.{◌≡◌, ◌<◌, ◌≤◌, ◌↔◌, false, length, Some, None, Err, IfOk, OnOk, IsTrue, MatchOption};
-ghost use Rattle.tq_json.specs.Next.{next, next_items, Found};
-ghost use Rattle.tq_json.specs.Member.{each};
+ghost use Rattle.tq_json.specs.{Next.{next, next_items, Found}, Member.each};
 ghost use Rattle.tq_json_read.specs.Slots.{within_cap, list_of};
 
 use crate::entry::Plan;

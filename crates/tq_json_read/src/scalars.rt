@@ -1,7 +1,5 @@
 //! Values that hold no others, and lists of any length.
-ghost use Rattle.std.specs.Prelude.{◌≡◌, Some, refl};
-ghost use Rattle.std.specs.Option.{option_and_then};
-ghost use Rattle.std.specs.Str.{bytes_eq};
+ghost use Rattle.std.specs.{Prelude.{◌≡◌, Some, refl}, Option.option_and_then, Str.bytes_eq};
 ghost use Rattle.serde_json.specs.Find.{as_str, as_bool};
 ghost use Rattle.tq_json.specs.Member as content;
 ghost use Rattle.tq_json.specs.Member.{number_of};
@@ -28,8 +26,7 @@ pub(crate) struct Word<'a> {
 }
 
 impl<'a> Model for Word<'a> {
-    ghost use Rattle.std.specs.Prelude.{List, ℕ};
-    ghost use Rattle.std.specs.Coded.{coded_list, coded_ℕ};
+    ghost use Rattle.std.specs.{Prelude.{List, ℕ}, Coded.{coded_list, coded_ℕ}};
 
     ghost Value = { List ℕ };
 

@@ -6,22 +6,16 @@ use denote.Model.Cut.{split_one}
 use denote.Model.Local.{Parts, rows}
 use denote.Model.Marks.{tied_send}
 use denote.Model.Goals.{has_of, part_has, send}
-use Rattle.std.proofs.Crossing.{crosses}
-use Rattle.tq_live.specs.declared.node.Node.TheInside.{Inside}
-use Rattle.tq_live.specs.declared.node.Below.{Below}
-use Rattle.tq_live.specs.declared.node.Sides.{Sides}
+use Rattle.std.proofs.{Crossing.crosses, Math.Nat.{pow-suc, div-div-eq-div-mul}, lemmas.Bool.{eqb-true, eqb-false}}
+use Rattle.std.proofs.Common.{◌≡◌, ℕ, ◌+◌, ◌-◌, ◌*◌, ◌/◌, ◌%◌, ◌^◌, ◌<◌, ◌≤◌, ◌==◌, ◌≢◌, zero, suc, Bool, true, false, cond, refl, sym, ap, subst, ◌∙◌, arith}
+use Rattle.tq_live.specs.declared.{node.Node.TheInside.Inside, node.Below.Below, node.Sides.Sides, costs.Costs.Costs}
+use Rattle.tq_live.specs.{Subtree.{Subtree, Alone, Over}, declared.costs.Setting.Setting}
+use Rattle.tq_live.specs.Kept.{goes_left_at, under, changed_under, caches_on_way, costs_after, mark_after, top_of, IsComplete}
 use Rattle.tq_live.specs.declared.node.Node.TheDeep as deep
 use Rattle.tq_live.specs.contracts.node.Node as Node
 use Rattle.tq_live.specs.contracts.node.Node.TheKnot as knot
 use Rattle.tq_live.specs.contracts.tree.LiveTree as LiveTree
-use Rattle.std.proofs.Common.{◌≡◌, ℕ, ◌+◌, ◌-◌, ◌*◌, ◌/◌, ◌%◌, ◌^◌, ◌<◌, ◌≤◌, ◌==◌, ◌≢◌, zero, suc, Bool, true, false, cond, refl, sym, ap, subst, ◌∙◌, arith}
-use Rattle.std.proofs.Math.Nat.{pow-suc, div-div-eq-div-mul}
-use Rattle.std.proofs.lemmas.Bool.{eqb-true, eqb-false}
 use Rattle.tq_shape.specs.Tree.{left_of, right_of}
-use Rattle.tq_live.specs.Subtree.{Subtree, Alone, Over}
-use Rattle.tq_live.specs.Kept.{goes_left_at, under, changed_under, caches_on_way, costs_after, mark_after, top_of, IsComplete}
-use Rattle.tq_live.specs.declared.costs.Setting.{Setting}
-use Rattle.tq_live.specs.declared.costs.Costs.{Costs}
 
 -- ---- one layer may move where what stands below may
 

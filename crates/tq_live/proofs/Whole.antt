@@ -1,22 +1,15 @@
 -- A whole tree of nodes and what callers see of it.
 use Rattle.std.proofs.Common.{◌≡◌, ℕ, ◌+◌, ◌-◌, ◌*◌, ◌/◌, ◌^◌, ◌<◌, ◌≤◌, ◌==◌, ◌≢◌, ◌⊎◌, zero, suc, List, [], ◌∷◌, Bool, true, false, not, cond, Option, Some, None, map, set, replicate, refl, sym, ap, subst, ◌∙◌, inl, inr, arith}
+use Rattle.std.proofs.{Math.Nat.{pow-suc, pow-le-pow_right, div-eq_of_lt-le}, lemmas.Nat.pow_pos}
+use Rattle.std.proofs.lemmas.{Bool.{cases_lt, cases_eq, eq-eqb, ne_eqb}, List.FromFn.get_or-map-range_with_len}
 use Rattle.std.specs.List.{range_with_len}
-use Rattle.std.proofs.Math.Nat.{pow-suc, pow-le-pow_right, div-eq_of_lt-le}
-use Rattle.std.proofs.lemmas.Nat.{pow_pos}
-use Rattle.std.proofs.lemmas.Bool.{cases_lt, cases_eq, eq-eqb, ne_eqb}
-use Rattle.std.proofs.lemmas.List.FromFn.{get_or-map-range_with_len}
 use Rattle.tq_shape.specs.Tree.{IsServer, left_of, right_of, depth_of, height_of}
 use Rattle.tq_shape.proofs.Tree.{depth_of-bounds, depth_of-side}
-use Rattle.tq_live.specs.Least.{least_member, changed_set, pair}
-use Rattle.tq_live.specs.Live.{Live, costs_of, is_up}
+use Rattle.tq_live.specs.{Least.{least_member, changed_set, pair}, Live.{Live, costs_of, is_up}}
 use Rattle.tq_live.specs.Kept.{cost_for, allowed_for, found_set, found_weight, form_of, by_form, allowed_here, with_here, goes_left_at, weight_here, weight_of, form_in, found_in, under, changed_under, caches_on_way, top_of, IsComplete, StandsAt, even, seen_at, costs_at, mark_at, live_of, changed_live, IsAt}
-use Rattle.tq_live.specs.Subtree.{Subtree, Alone, Over}
-use Rattle.tq_live.specs.Costs.{even_costs, no_costs}
-use Rattle.tq_live.specs.declared.costs.Costs.{Costs}
-use Rattle.tq_live.specs.declared.least.SearchFor.{SearchFor}
-use Rattle.tq_live.specs.declared.least.SearchFor.TheVariants.{Quorum, Blocker}
-use Rattle.tq_live.specs.declared.costs.Setting.{Setting}
-use Rattle.tq_live.specs.declared.costs.Setting.TheVariants.{Cost, Mark}
+use Rattle.tq_live.specs.{Subtree.{Subtree, Alone, Over}, Costs.{even_costs, no_costs}, declared.costs.Costs.Costs}
+use Rattle.tq_live.specs.declared.least.{SearchFor.SearchFor, SearchFor.TheVariants.{Quorum, Blocker}}
+use Rattle.tq_live.specs.declared.costs.{Setting.Setting, Setting.TheVariants.{Cost, Mark}}
 use Rattle.tq_live.proofs.LeastMembers.{top_weight, least_weight, least_weight-leaf, least_weight-from, with_top, least_member-leaf}
 use Rattle.tq_live.proofs.Repair.{IsFork, fork_member}
 use Rattle.tq_live.proofs.Ways.{left_side, right_side, under-step, under-left, under-right, complete-under, caches-complete, seen_after, changed-here, changed-elsewhere}

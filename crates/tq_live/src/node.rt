@@ -1,12 +1,9 @@
 //! A server with all below it: the walks down, and the repair of one path.
 
 ghost use Rattle.std.specs.Prelude.{◌≡◌, ◌+◌, ◌*◌, ◌^◌, ◌<◌, ◌≤◌, IfOk, IfSome, OnOk};
-ghost use Rattle.tq_shape.specs.Tree.{IsServer};
-ghost use Rattle.tq_shape.specs.ServerSet.{set_with};
-ghost use Rattle.tq_live.specs.Subtree.{Subtree, Over, leaves};
+ghost use Rattle.tq_shape.specs.{Tree.IsServer, ServerSet.set_with};
+ghost use Rattle.tq_live.specs.{Subtree.{Subtree, Over, leaves}, Least.HasGathered, Costs.{AreLow, no_costs}};
 ghost use Rattle.tq_live.specs.Kept.{weight_of, form_in, goes_left_at, under, costs_after, changed_under, caches_on_way, found_in, StandsAt, even, top_of, subtree_of};
-ghost use Rattle.tq_live.specs.Least.{HasGathered};
-ghost use Rattle.tq_live.specs.Costs.{AreLow, no_costs};
 ghost use Rattle.tq_live.specs.declared.purpose.Purpose.{Purpose};
 ghost use Rattle.tq_live.specs.declared.least.SearchFor.TheVariants as soughts;
 

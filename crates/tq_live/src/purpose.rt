@@ -1,7 +1,6 @@
 //! What a quorum is chosen for.
 
-ghost use Rattle.std.specs.Prelude.{◌≡◌};
-ghost use Rattle.std.specs.Str.{bytes_eq};
+ghost use Rattle.std.specs.{Prelude.◌≡◌, Str.bytes_eq};
 ghost use Rattle.tq_live.specs.Costs as spec;
 
 use tq_shape::ExactClone;

@@ -49,8 +49,7 @@ impl LiveTree {
     ghost use Rattle.std.specs.Bool.{OnTrue, OnFalse};
     ghost use Rattle.tq_shape.specs.Tree.{depth_of};
     ghost use Rattle.tq_live.specs.Live.{best, best_cost, blocker, costs_of, is_up, members_up, HasQuorumOrBlocker, HasQuorumOrBlockerUnder, new_live, with_both_costs, with_costs, with_mark, IsChoice, IsFirstChoice, IsBestOf, IsFirstOf};
-    ghost use Rattle.tq_live.specs.Least.{IsFound, AreServersOf};
-    ghost use Rattle.tq_live.specs.Kept.{IsAt, changed_live, costs_after, found_set};
+    ghost use Rattle.tq_live.specs.{Least.{IsFound, AreServersOf}, Kept.{IsAt, changed_live, costs_after, found_set}};
     ghost use Rattle.tq_live.specs.Costs.{AreCosts, AreLow, no_costs};
 
     /// Every server at cost 1 for each purpose and up.

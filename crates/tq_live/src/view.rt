@@ -100,11 +100,9 @@ impl Model for View {
 
 impl View {
     ghost use Rattle.std.specs.Prelude.{◌≡◌, [], IfOk, OnOk, OnErr};
-    ghost use Rattle.tq_live.specs.Live.{HasQuorumOrBlocker};
+    ghost use Rattle.tq_live.specs.{Live.HasQuorumOrBlocker, ViewLaws.{view_change, view_changed, ViewFits}};
     ghost use Rattle.tq_live.specs.View.{view_reply, view_after, view_state, GoesWithJournal, IsFirstReply, ReplaysJournals};
-    ghost use Rattle.tq_live.specs.ViewLaws.{view_change, view_changed, ViewFits};
-    ghost use Rattle.tq_live.specs.declared.purpose.Purpose.{Purpose};
-    ghost use Rattle.tq_live.specs.declared.view.ViewAsk.TheVariants.{Choose};
+    ghost use Rattle.tq_live.specs.declared.{purpose.Purpose.Purpose, view.ViewAsk.TheVariants.Choose};
 
     /// Every server at cost 1 for each purpose and up. From there, asks and replies lead where their journal says.
     pub fn new(alloc: Global, levels: Levels) -> Result<View, Memory>

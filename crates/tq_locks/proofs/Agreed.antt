@@ -1,21 +1,15 @@
 -- What follows where a slab and its indexes agree with a set of locks, and that they still do after a change.
 use Rattle.std.proofs.Common.{◌≡◌, ◌≢◌, ℕ, zero, suc, Bool, true, false, cond, not, List, [], ◌∷◌, ◌++◌, map, filter, take, drop, Option, Some, None, refl, ap, sym, ◌∙◌, inl, inr, get_or}
+use Rattle.std.proofs.lemmas.List.{map-append, map-id}
 use lib.Dec.{T}
 use mathlib.Core.Bool.{true≢false}
-use Rattle.std.proofs.lemmas.List.{map-append, map-id}
 use Rattle.std.specs.FinMap.Entries.{put, find, where_key, is_sorted, is_sorted-where_key, find-where_key}
-use Rattle.std.specs.List.{insert, remove, take-map, drop-map, filter_map}
-use Rattle.std.specs.Ordering.{eq_by_cmp}
-use Rattle.std.specs.Cmp.{eq_by_cmp_equiv}
+use Rattle.std.specs.{List.{insert, remove, take-map, drop-map, filter_map}, Ordering.eq_by_cmp, Cmp.eq_by_cmp_equiv}
 use Rattle.std.specs.declared.cmp.Ordering.TheVariants.{Equal}
 use Rattle.slab.specs.Slab.{Slab, get, Updates}
 use Rattle.tq_shape.specs.Journal.{Has}
-use Rattle.tq_locks.specs.declared.mode.Lock.{Lock}
-use Rattle.tq_locks.specs.Locks.{LockKey, lock_cmp}
-use Rattle.tq_locks.specs.Keys.{place}
-use Rattle.tq_locks.specs.Kept.{AreKeysOf}
-use Rattle.tq_locks.proofs.Found.{locks_total, locks_same, none_some, some_same}
-use Rattle.tq_locks.proofs.Locked.{same_key}
+use Rattle.tq_locks.specs.{declared.mode.Lock.Lock, Locks.{LockKey, lock_cmp}, Keys.place, Kept.AreKeysOf}
+use Rattle.tq_locks.proofs.{Found.{locks_total, locks_same, none_some, some_same}, Locked.same_key}
 use Rattle.tq_locks.proofs.Placed.{insert-place, remove-place, where_key-put, where_key-swap, other_keys, revalued, put-revalued}
 
 -- ---- lists

@@ -1,36 +1,27 @@
 -- What the methods of the kept locks find and leave. What a new lock comes to, where the first lock of another
 -- transaction on its file decides.
 use Rattle.std.proofs.Common.{◌≡◌, ℕ, zero, suc, ◌==◌, Bool, true, false, cond, List, [], ◌∷◌, map, filter, length, Option, Some, None, IfNone, IfSome, Result, Ok, Err, OnErr, refl, ap, sym, subst, ◌∙◌, inl, inr, nat_eq, arith}
+use Rattle.std.proofs.lemmas.{Bool.Decides.nat_tests, List.Sorted.{IsPermutation-map, length_permutation}}
+use Rattle.std.proofs.lemmas.{Map.Keys.IsDistinct-IsPermutation, Cmp.tied_itself}
 use lib.Dec.{T}
 use mathlib.Core.Bool.{true≢false}
-use Rattle.std.proofs.lemmas.Bool.Decides.{nat_tests}
-use Rattle.std.proofs.lemmas.List.Sorted.{IsPermutation-map, length_permutation}
-use Rattle.std.proofs.lemmas.Map.Keys.{IsDistinct-IsPermutation}
 use Rattle.std.specs.FinMap as fin
-use Rattle.std.specs.List.Sorted.{IsPermutation}
+use Rattle.std.specs.{List.Sorted.IsPermutation, Map.lookup, Option.{option_map, option_map_or}}
 use Rattle.std.specs.FinMap.Entries.{find, is_sorted, below_all, is_sorted-where_key, find-where_key}
 use Rattle.std.specs.List.{insert, remove, slice_get, filter_map, cons_option, AllByRecursion, IsDistinct}
-use Rattle.std.proofs.lemmas.Cmp.{tied_itself}
-use Rattle.std.specs.Map.{lookup}
-use Rattle.std.specs.Option.{option_map, option_map_or}
-use Rattle.std.specs.Ordering.{is_lt, is_eq}
-use Rattle.std.specs.declared.cmp.Ordering.{Ordering}
+use Rattle.std.specs.{Ordering.{is_lt, is_eq}, declared.cmp.Ordering.Ordering}
 use Rattle.std.specs.declared.cmp.Ordering.TheVariants.{Less, Equal, Greater}
 use Rattle.slab.specs.Slab.{Slab, get, Updates}
 use Rattle.tq_store.specs.Names.{same_name}
 use Rattle.tq_shape.specs.Journal.{Has, state_at}
-use Rattle.tq_locks.specs.declared.keyed.KeyedLocks.{KeyedLocks}
-use Rattle.tq_locks.specs.declared.mode.Mode.{Mode}
-use Rattle.tq_locks.specs.declared.mode.Lock.{Lock}
-use Rattle.tq_locks.specs.Locks.{LockKey, Locks, lock_cmp, held_of}
-use Rattle.tq_locks.specs.Keys.{place, keys_under, entries_of}
+use Rattle.tq_locks.specs.declared.{keyed.KeyedLocks.KeyedLocks, mode.Mode.Mode, mode.Lock.Lock}
+use Rattle.tq_locks.specs.{Locks.{LockKey, Locks, lock_cmp, held_of}, Keys.{place, keys_under, entries_of}}
 use Rattle.tq_locks.specs.Kept.{first_blocker, on_file, lock_found, AreKeysOf, ListsKeysOf, HasOneKeyEach, Agrees, IsOf, RisesTo, locks_in}
 use Rattle.tq_locks.proofs.Found.{locks_total, locks_same, none_some, some_same, first, second, less, below_each, Has-looked_up}
-use Rattle.tq_locks.proofs.Placed.{turned}
-use Rattle.tq_locks.proofs.Agreed.{head_of, tail_of, nil_cons, item_of, Has-filter, alike}
+use Rattle.tq_locks.proofs.{Placed.turned, Agreed.{head_of, tail_of, nil_cons, item_of, Has-filter, alike}}
 use Rattle.tq_locks.proofs.Changed.{Agrees-put, Agrees-remove, closed, locks_in-agreed}
-use Rattle.tq_locks.specs.Locks as spec
 use Rattle.tq_locks.proofs.Locked.{HasNoConflict-granted, decided-blocker, least_blocker, no_blocker}
+use Rattle.tq_locks.specs.Locks as spec
 
 abbrev Entry : Type 0
 Entry = LockKey × Lock

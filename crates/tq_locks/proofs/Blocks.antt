@@ -4,8 +4,7 @@ use Rattle.std.proofs.lemmas.List.{append_assoc, append-nil, length-append, leng
 use Rattle.std.proofs.lemmas.List.Edits.{length-remove, length-between, insert-append_left, insert-append_right, insert_end, remove-append_right}
 use Rattle.std.proofs.lemmas.List.Sorted.{IsPermutation-refl, IsPermutation-append_comm, IsPermutation-trans, IsPermutation-append_left, IsPermutation-append_right}
 use Rattle.std.proofs.Math.Nat.{mod-lt}
-use Rattle.std.specs.List.{insert, remove}
-use Rattle.std.specs.List.Sorted.{IsPermutation}
+use Rattle.std.specs.{List.{insert, remove}, List.Sorted.IsPermutation}
 use Rattle.smallvec.specs.SmallVec.{SmallVec, HasRoomFor}
 use borrow.Rule.Slice.PartMut.{put_mid}
 use Rattle.tq_locks.specs.Keys.{turn, turned_keys, keys_of, HasRoomBehind}

@@ -1,26 +1,19 @@
 -- A slab and its indexes still agree with the set of locks after a change of one entry.
 use Rattle.std.proofs.Common.{◌≡◌, ◌≢◌, ℕ, nat_eq, ◌==◌, Bool, true, false, cond, not, List, [], ◌∷◌, map, filter, Option, Some, None, refl, ap, sym, subst, ◌∙◌, ◌⊎◌, inl, inr, arith}
+use Rattle.std.proofs.lemmas.{Bool.cases_eq, Bool.Decides.nat_tests}
 use mathlib.Core.Bool.{true≢false}
-use Rattle.std.proofs.lemmas.Bool.{cases_eq}
-use Rattle.std.proofs.lemmas.Bool.Decides.{nat_tests}
-use Rattle.std.specs.Cmp.{eq_by_cmp_equiv}
-use Rattle.std.specs.Cmp.Lexicographic.{same_text, nat_list_eq_equiv}
-use Rattle.std.specs.FinMap as fin
-use Rattle.std.specs.FinMap.Entries.{find, is_sorted-where_key, find-where_key, same_entries}
-use Rattle.std.specs.List.{insert, remove}
-use Rattle.std.specs.Option.{option_map_or}
+use Rattle.std.specs.{Cmp.eq_by_cmp_equiv, Cmp.Lexicographic.{same_text, nat_list_eq_equiv}, List.{insert, remove}}
+use Rattle.std.specs.{FinMap.Entries.{find, is_sorted-where_key, find-where_key, same_entries}, Option.option_map_or}
 use Rattle.std.specs.Ordering.{eq_by_cmp}
+use Rattle.std.specs.FinMap as fin
 use Rattle.slab.specs.Slab.{get, values, Updates}
 use Rattle.tq_store.specs.Names.{same_name}
 use Rattle.tq_shape.specs.Journal.{Has}
-use Rattle.tq_locks.specs.declared.keyed.KeyedLocks.{KeyedLocks}
-use Rattle.tq_locks.specs.declared.mode.Lock.{Lock}
+use Rattle.tq_locks.specs.{declared.keyed.KeyedLocks.KeyedLocks, declared.mode.Lock.Lock, Keys.{place, keys_under}}
 use Rattle.tq_locks.specs.Locks.{LockKey, Locks, lock_cmp, held_of, locks_after_release, only_stable, HasNoConflict}
-use Rattle.tq_locks.specs.Keys.{place, keys_under}
 use Rattle.tq_locks.specs.Kept.{locks_in, on_file, Agrees}
 use Rattle.tq_locks.proofs.Found.{locks_total, locks_same, none_some, some_same, Has-looked_up, entry_of}
-use Rattle.tq_locks.proofs.Locked.{same_key, get-released, get-only_stable}
-use Rattle.tq_locks.proofs.Placed.{other_keys}
+use Rattle.tq_locks.proofs.{Locked.{same_key, get-released, get-only_stable}, Placed.other_keys}
 use Rattle.tq_locks.proofs.Agreed.{put_listed, set_listed, remove_listed, filter-Has, key_of, Has-values, values-Has, itself, apart, alike}
 
 abbrev Entry : Type 0

@@ -1,28 +1,20 @@
 -- The order of locks. What a search through a finite map's entries finds, and what a look-up says of them. A tree's
 -- entries, which rise by their keys, and the finite map that contracts see.
-use Rattle.std.specs.Cmp.{IsTotalOrder, nat_cmp_total, eq_by_cmp_equiv}
-use Rattle.std.specs.Cmp.Lexicographic.{nat_list_cmp_total}
+use Rattle.std.specs.{Cmp.{IsTotalOrder, nat_cmp_total, eq_by_cmp_equiv}, Cmp.Lexicographic.nat_list_cmp_total}
 use Rattle.std.specs.FinMap.{IsAntisymmetric, nat_cmp-IsAntisymmetric, slice_cmp-IsAntisymmetric, FinMap, is_sorted}
-use Rattle.std.proofs.lemmas.Cmp.{on_total, then_total}
-use Rattle.std.proofs.lemmas.Map.Lookups.{exact_pairs}
-use Rattle.tq_store.specs.Copies.{name_cmp}
-use Rattle.std.specs.Ordering.{nat_cmp, is_lt, is_eq, ordering_reverse, eq_by_cmp}
-use Rattle.tq_locks.specs.Locks.{LockKey, lock_cmp}
+use Rattle.std.specs.{Ordering.{nat_cmp, is_lt, is_eq, ordering_reverse, eq_by_cmp}, FinMap.Entries.below_all}
+use Rattle.std.specs.{List.{find, AllByRecursion}, Option.is_none, declared.cmp.Ordering.Ordering, BTreeMap.is_at}
+use Rattle.std.specs.{declared.cmp.Ordering.TheVariants.{Less, Equal, Greater}, List.Sorted.IsStrictlySortedBy}
+use Rattle.std.specs.Map.{lookup, keys_of}
+use Rattle.std.proofs.lemmas.{Cmp.{on_total, then_total}, Map.Lookups.exact_pairs, Map.Entries.lookup-filter-keys}
 use Rattle.std.proofs.Common.{◌≡◌, Bool, true, false, cond, ◌&&◌, List, [], ◌∷◌, Some, None, refl, ap, sym, subst, ◌∙◌, ◌⊎◌, inl, inr, unwrap_or, filter}
+use Rattle.tq_store.specs.Copies.{name_cmp}
+use Rattle.tq_locks.specs.Locks.{LockKey, lock_cmp}
 use lib.Dec.{T}
 use mathlib.Core.Bool.{true≢false}
 use Rattle.std.specs.FinMap as fin
-use Rattle.std.specs.FinMap.Entries.{below_all}
-use Rattle.std.specs.List.{find, AllByRecursion}
-use Rattle.std.specs.Option.{is_none}
-use Rattle.std.specs.declared.cmp.Ordering.{Ordering}
-use Rattle.std.specs.declared.cmp.Ordering.TheVariants.{Less, Equal, Greater}
 use Rattle.tq_shape.proofs.Options.{is_eq-Equal}
 use Rattle.tq_shape.specs.Journal.{Has}
-use Rattle.std.proofs.lemmas.Map.Entries.{lookup-filter-keys}
-use Rattle.std.specs.BTreeMap.{is_at}
-use Rattle.std.specs.List.Sorted.{IsStrictlySortedBy}
-use Rattle.std.specs.Map.{lookup, keys_of}
 
 pub locks_total : IsTotalOrder lock_cmp
 locks_total = then_total (on_total (λ (k : LockKey). k.0) nat_list_cmp_total) (on_total (λ (k : LockKey). k.1) nat_cmp_total)

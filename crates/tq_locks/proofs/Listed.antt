@@ -1,17 +1,14 @@
 -- Keys that a list has. Locks that are not stable are listed, after each change of a slab. A slab and lists of keys
 -- that are clones hold the same.
 use Rattle.std.proofs.Common.{◌≡◌, ◌++◌, ℕ, nat_eq, zero, suc, ◌+◌, ◌≤◌, drop, ◌||◌, Bool, false, ap, sym, length, Option, Some, None, true, List, [], ◌∷◌, refl, ◌∙◌, inl, inr, ◌⊎◌, arith, ◌≢◌, ◌==◌, cond, subst}
-use Rattle.std.proofs.lemmas.Bool.Decides.{nat_tests}
+use Rattle.std.proofs.lemmas.{Bool.Decides.nat_tests, Bool.cases_eq}
 use mathlib.Core.Bool.{true≢false}
-use Rattle.std.specs.List.{list_any, filter_map, cons_option, slice_get, AllZip}
+use Rattle.std.specs.{List.{list_any, filter_map, cons_option, slice_get, AllZip}, Option.{option_map, option_map_or}}
+use Rattle.std.specs.Map.{lookup}
 use Rattle.tq_shape.specs.Journal.{Has}
 use Rattle.tq_locks.proofs.Found.{none_some, some_same}
-use Rattle.std.proofs.lemmas.Bool.{cases_eq}
-use Rattle.std.specs.Option.{option_map, option_map_or}
 use Rattle.slab.specs.Slab.{Slab, get, slab_len, Updates}
-use Rattle.tq_locks.specs.declared.mode.Lock.{Lock}
-use Rattle.tq_locks.specs.Locks.{LockKey, ListsLoose, room_with, with_lock}
-use Rattle.std.specs.Map.{lookup}
+use Rattle.tq_locks.specs.{declared.mode.Lock.Lock, Locks.{LockKey, ListsLoose, room_with, with_lock}}
 use Rattle.smallvec.specs.SmallVec.{SmallVec}
 
 pub Has-more : (xs ys : List ℕ) (k : ℕ) → Has xs k → Has (xs ++ ys) k

@@ -1,26 +1,20 @@
 -- What the table has at a file and a transaction after each change, and that no two of its locks are in conflict.
 use Rattle.std.proofs.Common.{◌≡◌, ◌≢◌, ◌≤◌, ◌<◌, ◌==◌, ◌&&◌, ℕ, Bool, true, false, cond, not, List, [], ◌∷◌, map, Option, Some, None, refl, ap, sym, ◌∙◌, ◌⊎◌, inl, inr, arith, nat_eq, IfSome, filter}
+use Rattle.std.proofs.lemmas.{Bool.Decides.nat_tests, Cmp.{ranked, tied_itself}}
 use lib.Dec.{T}
 use mathlib.Core.Bool.{true≢false}
-use Rattle.std.proofs.lemmas.Bool.Decides.{nat_tests}
-use Rattle.std.proofs.lemmas.Cmp.{ranked, tied_itself}
 use Rattle.std.specs.Cmp.Lexicographic.{pointwise, same_text, nat_list_cmp_total, nat_list_eq_equiv}
-use Rattle.std.specs.FinMap as fin
-use Rattle.std.specs.FinMap.Entries.{below_all, is_sorted-where_key}
-use Rattle.std.specs.List as lists
-use Rattle.std.specs.Option.{option_map, option_map_or}
-use Rattle.std.specs.Ordering.{nat_cmp, is_lt, eq_by_cmp, ordering_then}
-use Rattle.std.specs.declared.cmp.Ordering.{Ordering}
+use Rattle.std.specs.{FinMap.Entries.{below_all, is_sorted-where_key}, Option.{option_map, option_map_or}}
+use Rattle.std.specs.{Ordering.{nat_cmp, is_lt, eq_by_cmp, ordering_then}, declared.cmp.Ordering.Ordering}
 use Rattle.std.specs.declared.cmp.Ordering.TheVariants.{Less}
-use Rattle.tq_locks.specs.Kept.{first_blocker}
+use Rattle.std.specs.FinMap as fin
+use Rattle.std.specs.List as lists
+use Rattle.tq_locks.specs.{Kept.first_blocker, declared.mode.Mode.Mode, declared.mode.Lock.Lock}
 use Rattle.tq_locks.specs.Locks.{LockKey, Locks, lock_cmp, conflicts, stronger, blocks, Blocks, IsFree, IsLeastBlocker, blocker, lock_after, locks_after_grant, locks_after_release, only_stable, entry_after_keep, locks_after_keep, HasNoConflict}
-use Rattle.tq_locks.specs.declared.mode.Mode.{Mode}
 use Rattle.tq_locks.specs.declared.mode.Mode.TheVariants.{Shared, Exclusive}
-use Rattle.tq_locks.specs.declared.mode.Lock.{Lock}
 use Rattle.tq_locks.proofs.Found.{first, second, below_each, some_same, none_some, none_passes, first_passes, entry_of, get-entry_of, locks_total, locks_same}
-use Rattle.tq_shape.proofs.Places.{find-Has}
+use Rattle.tq_shape.proofs.{Places.find-Has, Options.is_eq-Equal}
 use Rattle.tq_shape.specs.Journal.{Has}
-use Rattle.tq_shape.proofs.Options.{is_eq-Equal}
 
 abbrev key : List ℕ → ℕ → LockKey
 key file txn = (file, txn)

@@ -1,32 +1,22 @@
 -- The place that a binary search finds among keys whose entries rise. The locks while the list of a transaction is out
 -- of its index.
 use Rattle.std.proofs.Common.{◌≡◌, ℕ, zero, suc, ◌≤◌, ◌<◌, ◌+◌, ◌-◌, ◌/◌, Bool, true, false, cond, List, [], ◌∷◌, map, length, Option, Some, ap, sym, subst, ◌∙◌, arith, ◌==◌, ◌++◌, None, refl, nat_eq}
+use Rattle.std.proofs.{Math.Arith.half_le, lemmas.Cmp.tied_itself, lemmas.Bool.Decides.nat_tests}
 use lib.Dec.{T}
 use mathlib.Core.Bool.{true≢false}
-use Rattle.std.specs.Cmp.{IsTotalOrder}
-use Rattle.std.specs.FinMap.{IsAntisymmetric}
-use Rattle.std.proofs.Math.Arith.{half_le}
-use Rattle.std.proofs.lemmas.Cmp.{tied_itself}
-use Rattle.tq_shape.specs.Journal.{Has}
-use Rattle.std.specs.FinMap.Entries.{is_sorted, below_all}
-use Rattle.std.specs.Ordering.{is_lt}
-use Rattle.std.specs.List.{slice_get, remove}
-use Rattle.std.specs.Option.{option_map_or}
-use Rattle.std.specs.declared.cmp.Ordering.{Ordering}
+use Rattle.std.specs.{Cmp.IsTotalOrder, FinMap.IsAntisymmetric, FinMap.Entries.{is_sorted, below_all}, Ordering.is_lt}
+use Rattle.std.specs.{List.{slice_get, remove}, Option.option_map_or, declared.cmp.Ordering.Ordering}
 use Rattle.std.specs.declared.cmp.Ordering.TheVariants.{Less}
+use Rattle.tq_shape.specs.Journal.{Has}
 use Rattle.slab.specs.Slab.{Slab, get, Updates}
-use Rattle.tq_locks.specs.declared.mode.Lock.{Lock}
-use Rattle.tq_locks.specs.Keys.{place, keys_under}
-use Rattle.tq_locks.specs.Kept.{RisesTo, Agrees, LeftFile}
-use Rattle.tq_locks.specs.Locks.{LockKey, Locks}
+use Rattle.tq_locks.specs.{declared.mode.Lock.Lock, Keys.{place, keys_under}, Kept.{RisesTo, Agrees, LeftFile}}
+use Rattle.tq_locks.specs.{Locks.{LockKey, Locks}, declared.keyed.KeyedLocks.KeyedLocks}
 use Rattle.tq_locks.proofs.Found.{some_same, none_some, first, second, less, below_each, locks_total, locks_same}
 use Rattle.tq_locks.proofs.Agreed.{head_of, tail_of, nil_cons, item_of}
 use Rattle.tq_locks.proofs.Applied.{Has-at, Agrees-same, Agrees-left, cond_same}
-use Rattle.std.proofs.lemmas.Bool.Decides.{nat_tests}
 use Rattle.std.specs.FinMap as fin
 use Rattle.indexmap.specs.IndexMap.{with_entries}
 use Rattle.tq_store.specs.Names.{same_name}
-use Rattle.tq_locks.specs.declared.keyed.KeyedLocks.{KeyedLocks}
 
 less_test : (r : Ordering) → is_lt r ≡ true → r ≡ Less
 less_test r h = less r (subst T (sym h) tt)

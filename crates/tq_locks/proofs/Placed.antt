@@ -3,22 +3,16 @@
 use Rattle.std.proofs.Common.{◌≡◌, Bool, true, false, cond, not, ◌&&◌, List, [], ◌∷◌, map, Option, Some, None, refl, ap, sym, subst, ◌∙◌, ◌<◌, ◌≤◌, ℕ, zero, suc, length, slice_get, Result, Ok, Err, OnErr, OnOk, arith}
 use lib.Dec.{T}
 use mathlib.Core.Bool.{true≢false}
-use Rattle.std.specs.Cmp.{IsTotalOrder, eq_by_cmp_equiv, IsEquivalence}
-use Rattle.std.specs.FinMap.{IsAntisymmetric}
+use Rattle.std.specs.{Cmp.{IsTotalOrder, eq_by_cmp_equiv, IsEquivalence}, FinMap.IsAntisymmetric, List.{insert, remove}}
 use Rattle.std.specs.FinMap.Entries.{put, find, where_key, below_all, is_sorted, is_sorted-where_key, is_sorted-put, find-where_key, find-put, same_entries}
-use Rattle.std.specs.List.{insert, remove}
-use Rattle.std.specs.Option.{option_map, option_map_or}
-use Rattle.std.specs.Ordering.{is_lt, is_eq, eq_by_cmp, ordering_reverse}
-use Rattle.std.specs.declared.cmp.Ordering.{Ordering}
-use Rattle.std.specs.declared.cmp.Ordering.TheVariants.{Less, Equal, Greater}
+use Rattle.std.specs.{Option.{option_map, option_map_or}, Ordering.{is_lt, is_eq, eq_by_cmp, ordering_reverse}}
+use Rattle.std.specs.declared.cmp.{Ordering.Ordering, Ordering.TheVariants.{Less, Equal, Greater}}
+use Rattle.std.specs.{Bool.OnTrue, Map.{lookup, lookup_key, keys_of, values_of}}
 use Rattle.tq_shape.proofs.Options.{is_eq-Equal}
 use Rattle.tq_locks.specs.Keys.{place, keys_under, HasListAt, HasRoomUnder}
 use Rattle.tq_locks.proofs.Found.{none_some, first, second, less, below_each, Has-looked_up, some_same}
-use Rattle.std.specs.Bool.{OnTrue}
-use Rattle.std.specs.Map.{lookup, lookup_key, keys_of, values_of}
 use Rattle.indexmap.specs.IndexMap.{IndexMap, get, index_of, values, spare, with_value_at, set_value_at, IsUnique, Updates}
-use Rattle.indexmap.proofs.CallerLemmas.{updates-with_value_at}
-use Rattle.indexmap.proofs.MapLemmas.{Found-position, Missing-position}
+use Rattle.indexmap.proofs.{CallerLemmas.updates-with_value_at, MapLemmas.{Found-position, Missing-position}}
 use Rattle.smallvec.specs.SmallVec.{SmallVec, HasRoomFor}
 
 module _ {K : Type 0} {R : K → K → Ordering} (o : IsTotalOrder R) where

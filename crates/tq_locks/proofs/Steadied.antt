@@ -1,32 +1,23 @@
 -- The locks of a transaction become stable. The entries of a slab, put in order, are those of the set of locks.
 use Rattle.std.proofs.Common.{◌≡◌, ℕ, nat_eq, ◌==◌, Bool, true, false, cond, ◌||◌, List, [], ◌∷◌, map, Option, Some, None, refl, ap, sym, subst, ◌∙◌, inl, inr, arith, zero, suc, ◌<◌, ◌≤◌, length, ◌+◌, get_or, Contains}
+use Rattle.std.proofs.lemmas.{Bool.Decides.nat_tests, Map.Keys.IsDistinct-IsPermutation}
+use Rattle.std.proofs.lemmas.List.Sorted.{list_any-IsPermutation, Contains-permutation, IsPermutation-sym, ranks_by, sorted_far}
 use lib.Dec.{T}
 use mathlib.Core.Bool.{true≢false}
-use Rattle.std.proofs.lemmas.Bool.Decides.{nat_tests}
-use Rattle.std.proofs.lemmas.List.Sorted.{list_any-IsPermutation, Contains-permutation, IsPermutation-sym, ranks_by, sorted_far}
 use Rattle.std.specs.FinMap as fin
-use Rattle.std.specs.FinMap.Entries.{where_key, same_entries, is_sorted, below_all}
-use Rattle.std.specs.List.{list_any, filter_map, AllByRecursion, IsDistinct}
-use Rattle.std.specs.List.Sorted.{IsPermutation, IsSortedByKey}
-use Rattle.std.specs.Option.{option_map}
+use Rattle.std.specs.{FinMap.Entries.{where_key, same_entries, is_sorted, below_all}, Option.option_map}
+use Rattle.std.specs.{List.{list_any, filter_map, AllByRecursion, IsDistinct}, Cmp.eq_by_cmp_equiv}
+use Rattle.std.specs.{List.Sorted.{IsPermutation, IsSortedByKey}, Ordering.{is_lt, is_eq, eq_by_cmp}}
+use Rattle.std.specs.declared.cmp.{Ordering.Ordering, Ordering.TheVariants.{Less, Equal, Greater}}
 use Rattle.slab.specs.Slab.{Slab, get, entries_from, values}
 use Rattle.tq_store.specs.Names.{same_name}
 use Rattle.tq_shape.specs.Journal.{Has}
-use Rattle.tq_locks.specs.declared.keyed.KeyedLocks.{KeyedLocks}
-use Rattle.tq_locks.specs.declared.mode.Lock.{Lock}
+use Rattle.tq_locks.specs.{declared.keyed.KeyedLocks.KeyedLocks, declared.mode.Lock.Lock, Keys.keys_under}
 use Rattle.tq_locks.specs.Locks.{LockKey, Locks, lock_cmp, held_of, locks_after_keep, entry_after_keep, steady_entry, entry_after_steady}
-use Rattle.tq_locks.specs.Keys.{keys_under}
 use Rattle.tq_locks.specs.Kept.{AreKeysOf, Agrees}
-use Rattle.tq_locks.proofs.Found.{locks_total, locks_same, none_some, some_same, both}
-use Rattle.tq_locks.proofs.Locked.{get-kept}
-use Rattle.tq_locks.proofs.Placed.{sorted-valued, turned}
+use Rattle.tq_locks.proofs.{Found.{locks_total, locks_same, none_some, some_same, both}, Locked.get-kept}
+use Rattle.tq_locks.proofs.{Placed.{sorted-valued, turned}, Changed.{key_of_lock, find-agreed}}
 use Rattle.tq_locks.proofs.Agreed.{filter-valued, Has-filter, found_changed, item_of, apart, values-Has}
-use Rattle.tq_locks.proofs.Changed.{key_of_lock, find-agreed}
-use Rattle.std.proofs.lemmas.Map.Keys.{IsDistinct-IsPermutation}
-use Rattle.std.specs.Cmp.{eq_by_cmp_equiv}
-use Rattle.std.specs.Ordering.{is_lt, is_eq, eq_by_cmp}
-use Rattle.std.specs.declared.cmp.Ordering.{Ordering}
-use Rattle.std.specs.declared.cmp.Ordering.TheVariants.{Less, Equal, Greater}
 
 abbrev Entry : Type 0
 Entry = LockKey × Lock

@@ -1,20 +1,14 @@
 -- The locks of a table as it keeps them: entries under keys, and the keys of each file and of each transaction.
 use Rattle.std.specs.Prelude.{◌≡◌, ◌≤◌, ◌==◌, ◌+◌, ℕ, T, Bool, IfSome, IfNone, IsSome, slice_get, List, [], ◌∷◌, Option, length, map, filter, Some, None, false, nat_eq, if◌then◌else◌}
-use Rattle.std.specs.List.{IsDistinct, remove}
-use Rattle.std.specs.List.Sorted.{IsPermutation}
+use Rattle.std.specs.{List.{IsDistinct, remove}, List.Sorted.IsPermutation, Ordering.is_lt}
 use Rattle.std.specs.Option.{option_map, option_map_or, option_and_then}
 use Rattle.std.specs.FinMap as fin
-use Rattle.std.specs.Ordering.{is_lt}
 use Rattle.tq_shape.specs.Journal.{state_at}
 use Rattle.slab.specs.Slab.{Slab, get, slab_len, values}
 use Rattle.tq_store.specs.Names.{same_name}
-use Rattle.tq_locks.specs.declared.keyed.KeyedLocks.{KeyedLocks}
+use Rattle.tq_locks.specs.declared.{keyed.KeyedLocks.KeyedLocks, mode.Mode.Mode, mode.Lock.Lock, index.Spot.Spot}
+use Rattle.tq_locks.specs.{Locks.{LockKey, Locks, lock_cmp, conflicts, held_of}, Keys.{keys_under, place, entries_of}}
 use Rattle.indexmap.specs.IndexMap.{index_of}
-use Rattle.tq_locks.specs.declared.mode.Mode.{Mode}
-use Rattle.tq_locks.specs.declared.mode.Lock.{Lock}
-use Rattle.tq_locks.specs.declared.index.Spot.{Spot}
-use Rattle.tq_locks.specs.Locks.{LockKey, Locks, lock_cmp, conflicts, held_of}
-use Rattle.tq_locks.specs.Keys.{keys_under, place, entries_of}
 
 -- the entries that are kept, as a set of locks
 abbrev pub locks_in : KeyedLocks → Locks

@@ -1,14 +1,11 @@
 -- Lists of keys, each under a name.
 use Rattle.std.specs.Prelude.{◌≡◌, ◌<◌, ℕ, suc, Bool, true, List, [], ◌∷◌, Option, Some, None, if◌then◌else◌, filter_map, slice_get, length, take, drop, min, All, ◌*◌, ◌≤◌, ◌++◌}
+use Rattle.std.specs.{List.{insert, remove}, Global.{Box, Vec}, Option.{option_copied, option_map_or}, Ordering.is_lt}
+use Rattle.std.specs.declared.cmp.Ordering.{Ordering}
 use Rattle.slab.specs.Slab.{Slab, get as in_slab}
-use Rattle.std.specs.List.{insert, remove}
 use denote.Ref.{Bor}
-use Rattle.std.specs.Global.{Box, Vec}
-use Rattle.std.specs.Option.{option_copied, option_map_or}
 use Rattle.smallvec.specs.SmallVec.{SmallVec, HasRoomFor}
 use Rattle.indexmap.specs.IndexMap.{IndexMap, get, spare}
-use Rattle.std.specs.Ordering.{is_lt}
-use Rattle.std.specs.declared.cmp.Ordering.{Ordering}
 
 -- the keys of a list, none where there is no list
 abbrev pub keys_in : Option (SmallVec ℕ) → List ℕ

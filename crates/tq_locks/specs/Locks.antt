@@ -1,20 +1,14 @@
 -- The locks of a server, a finite map from a file and a transaction to a lock. Locks under keys, and the keys of those
 -- that aren't stable.
 use Rattle.std.specs.Prelude.{◌≡◌, ◌≢◌, ◌≤◌, ℕ, Bool, true, false, not, ◌&&◌, ◌||◌, ◌==◌, List, map, filter, Option, Some, None, if◌then◌else◌, refl, codes, [], ◌∷◌, nat_eq}
-use Rattle.std.specs.Coded.{Coded, code_by, coded×, coded_list, coded_ℕ, coded_bool}
-use Rattle.std.specs.FinMap as fin
-use Rattle.std.specs.List.{find, list_any}
-use Rattle.std.specs.Option.{option_map, option_map_or}
-use Rattle.std.specs.Ordering.{nat_cmp, ordering_then}
+use Rattle.std.specs.{Coded.{Coded, code_by, coded×, coded_list, coded_ℕ, coded_bool}, List.{find, list_any}}
+use Rattle.std.specs.{Option.{option_map, option_map_or}, Ordering.{nat_cmp, ordering_then}}
 use Rattle.std.specs.declared.cmp.Ordering.{Ordering}
-use Rattle.tq_store.specs.Copies.{name_cmp}
-use Rattle.tq_locks.specs.declared.mode.Mode.{Mode}
-use Rattle.tq_locks.specs.declared.mode.Mode.TheVariants.{Shared, Exclusive}
-use Rattle.tq_locks.specs.declared.mode.Lock.{Lock}
-use Rattle.tq_locks.specs.declared.table.LockOutcome.{LockOutcome}
-use Rattle.tq_locks.specs.declared.table.LockOutcome.TheVariants.{Granted, Held}
+use Rattle.std.specs.FinMap as fin
+use Rattle.tq_store.specs.{Copies.name_cmp, Names.same_name}
+use Rattle.tq_locks.specs.declared.mode.{Mode.Mode, Mode.TheVariants.{Shared, Exclusive}, Lock.Lock}
+use Rattle.tq_locks.specs.declared.table.{LockOutcome.LockOutcome, LockOutcome.TheVariants.{Granted, Held}}
 use Rattle.tq_shape.specs.Journal.{state_at, is_empty, Has}
-use Rattle.tq_store.specs.Names.{same_name}
 use Rattle.slab.specs.Slab.{Slab, slab_code, get, slab_len, Updates}
 
 -- a file and a transaction

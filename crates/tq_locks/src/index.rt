@@ -1,10 +1,8 @@
 //! An index of a slab: lists of keys, each under a name. The names have no order.
-ghost use Rattle.std.specs.Prelude.{◌≡◌, ◌==◌, ◌≤◌, ◌<◌, ◌∷◌, [], OnOk, OnErr, Some, None, length};
+ghost use Rattle.std.specs.{Prelude.{◌≡◌, ◌==◌, ◌≤◌, ◌<◌, ◌∷◌, [], OnOk, OnErr, Some, None, length}, Bool.OnTrue};
+ghost use Rattle.std.specs.{List.Sorted.IsPermutation, Option.option_copied};
 ghost use Rattle.indexmap.specs.IndexMap.{get, index_of, spare};
 ghost use Rattle.slab.specs.Slab.{get as in_slab};
-ghost use Rattle.std.specs.Bool.{OnTrue};
-ghost use Rattle.std.specs.List.Sorted.{IsPermutation};
-ghost use Rattle.std.specs.Option.{option_copied};
 ghost use Rattle.tq_locks.specs.Keys.{keys_under, Enters, HasListAt, HasRoomUnder, HasSameKeys, Leaves, Sets};
 ghost use Rattle.tq_locks.specs.Kept.{RisesTo};
 

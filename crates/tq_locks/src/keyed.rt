@@ -1,12 +1,10 @@
 //! The entries of a table in a slab, with the keys of each file and of each transaction.
 ghost use Rattle.std.specs.Prelude.{◌≡◌, ◌+◌, ◌-◌, ◌<◌, ◌≤◌, ℕ, List, None, Some, IfOk, OnErr, length};
+ghost use Rattle.std.specs.{Option.option_copied, Result.result_err};
 ghost use Rattle.std.specs.FinMap as fin;
-ghost use Rattle.std.specs.Option.{option_copied};
-ghost use Rattle.std.specs.Result.{result_err};
 ghost use Rattle.slab.specs.Slab.{get, slab_len, values, Updates};
 ghost use Rattle.tq_locks.specs.Locks.{LockKey, Locks, locks_after_keep, locks_after_release, only_stable, IsAsStable, IsLooseAt, entry_after_steady};
-ghost use Rattle.tq_locks.specs.Keys.{lent_keys, place, entries_of};
-ghost use Rattle.tq_locks.specs.Kept.{first_blocker};
+ghost use Rattle.tq_locks.specs.{Keys.{lent_keys, place, entries_of}, Kept.first_blocker};
 
 use crate::index::{
     Spot, end_empty_under, enter_under, list_near, list_under, listed_under, make_room_under,
@@ -351,9 +349,7 @@ impl<'a> HeldLocks<'a> {
 
 impl<'a> Model for HeldLocks<'a> {
     ghost use Rattle.std.specs.Prelude.{List, drop};
-    ghost use Rattle.tq_locks.specs.Locks.{LockKey};
-    ghost use Rattle.tq_locks.specs.declared.mode.Lock.{Lock};
-    ghost use Rattle.tq_locks.specs.Keys.{entries_of};
+    ghost use Rattle.tq_locks.specs.{Locks.LockKey, declared.mode.Lock.Lock, Keys.entries_of};
 
     ghost Value = { List (LockKey × Lock) };
 

@@ -1,8 +1,6 @@
 //! A list of keys in which a key comes in or leaves by moves of few others, however long it is.
 ghost use Rattle.std.specs.Prelude.{◌≡◌, ◌+◌, ◌-◌, ◌*◌, ◌<◌, ◌≤◌, ◌++◌, OnOk, IfSome, IfNone, length, suc, Some, [], ◌∷◌, option_to_list, IfOk, OnErr};
-ghost use Rattle.std.specs.Bool.{OnTrue};
-ghost use Rattle.std.specs.List.{insert, remove, slice_get};
-ghost use Rattle.std.specs.List.Sorted.{IsPermutation};
+ghost use Rattle.std.specs.{Bool.OnTrue, List.{insert, remove, slice_get}, List.Sorted.IsPermutation};
 ghost use Rattle.smallvec.specs.SmallVec.{HasRoomFor, small_vec_len};
 ghost use Rattle.tq_locks.specs.Keys.{HasBlocks, HasRoomBehind, Sinks, starts_in, turn, turned_keys};
 
@@ -26,8 +24,7 @@ pub(crate) struct Keys {
 }
 
 impl Model for Keys {
-    ghost use Rattle.std.specs.Prelude.{ℕ};
-    ghost use Rattle.std.specs.Coded.{coded_ℕ};
+    ghost use Rattle.std.specs.{Prelude.ℕ, Coded.coded_ℕ};
     ghost use Rattle.smallvec.specs.SmallVec.{SmallVec as Items, small_vec_code, small_vec_len};
     ghost use Rattle.tq_locks.specs.Keys.{keys_of, starts_in, HasBlocks};
 

@@ -1,9 +1,7 @@
 //! Lists of the keys of a slab, whose entries rise.
-ghost use Rattle.std.specs.Prelude.{◌≡◌, ◌≤◌, length, Some};
-ghost use Rattle.std.specs.List.{remove};
+ghost use Rattle.std.specs.{Prelude.{◌≡◌, ◌≤◌, length, Some}, List.remove};
 ghost use Rattle.slab.specs.Slab.{get};
-ghost use Rattle.tq_locks.specs.Keys.{lent_keys};
-ghost use Rattle.tq_locks.specs.Kept.{is_under, is_under_at, RisesTo};
+ghost use Rattle.tq_locks.specs.{Keys.lent_keys, Kept.{is_under, is_under_at, RisesTo}};
 
 use crate::LockEntry;
 use crate::keys::{Keys, LentKeys};

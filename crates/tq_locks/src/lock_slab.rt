@@ -1,7 +1,6 @@
 //! Locks in a slab, which tells those that aren't stable with no walk of the others.
 ghost use Rattle.std.specs.Prelude.{◌≡◌, ◌+◌, ◌<◌, ℕ, None, Some, IfSome, IfNone, IfOk, OnOk, ◌∷◌, []};
-ghost use Rattle.std.specs.Bool.{OnTrue, OnFalse};
-ghost use Rattle.std.specs.Option.{option_copied};
+ghost use Rattle.std.specs.{Bool.{OnTrue, OnFalse}, Option.option_copied};
 ghost use Rattle.slab.specs.Slab.{get, entries, slab_len, HasRoomFor, ContainsKey, Updates};
 ghost use Rattle.tq_shape.specs.Journal.{Has};
 ghost use Rattle.tq_locks.specs.declared.mode.Lock.{Lock};
@@ -25,8 +24,7 @@ pub(crate) struct LockSlab {
 
 impl Model for LockSlab {
     ghost use Rattle.slab.specs.Slab.{Slab as Slots, slab_code};
-    ghost use Rattle.tq_locks.specs.declared.mode.Lock.{Lock};
-    ghost use Rattle.tq_locks.specs.Locks.{LockKey, lock_entry_code, with_room, ListsLoose};
+    ghost use Rattle.tq_locks.specs.{declared.mode.Lock.Lock, Locks.{LockKey, lock_entry_code, with_room, ListsLoose}};
 
     ghost Value = { Slots (LockKey × Lock) };
 

@@ -40,8 +40,7 @@ pub struct LockEntry {
 }
 
 impl Model for LockEntry {
-    ghost use Rattle.tq_locks.specs.Locks.{LockKey, lock_entry_code};
-    ghost use Rattle.tq_locks.specs.declared.mode.Lock.{Lock};
+    ghost use Rattle.tq_locks.specs.{Locks.{LockKey, lock_entry_code}, declared.mode.Lock.Lock};
 
     ghost Value = { LockKey × Lock };
 
@@ -80,9 +79,9 @@ impl Model for LockTable {
 
 impl LockTable {
     ghost use Rattle.tq_locks.specs.Locks.{blocker, held_of, holds_nothing, locks_after_keep, only_stable, outcome, locks_after_release, HasNoConflict, IsAmong, IsAsked, IsFree, IsGranted, IsLeastBlocker, IsTold};
+    ghost use Rattle.tq_locks.specs.Kept.{on_file, ListsKeysOf, HasOneKeyEach};
     ghost use Rattle.slab.specs.Slab.{get};
     ghost use Rattle.std.specs.Option.{option_copied};
-    ghost use Rattle.tq_locks.specs.Kept.{on_file, ListsKeysOf, HasOneKeyEach};
 
     /// No transaction holds a lock.
     pub fn new(alloc: Global) -> LockTable

@@ -1,34 +1,26 @@
 -- Replaying a journal: it is legal so far, or the first entry that is not is found. Legal journals have no entry that
 -- is wrong. What one more exchange tells, and what one more caller was told.
 use Rattle.std.proofs.Common.{◌≡◌, ◌<◌, ◌+◌, ◌-◌, ℕ, suc, List, [], ◌∷◌, ◌++◌, length, map, take, reverse, get_or, refl, sym, ap, subst, ◌∙◌, arith, length-take-le, inl, inr, ◌≤◌, zero, Option, Some, None, Ok, append-nil}
-use Rattle.std.specs.Option.{option_map, option_and_then, is_some}
 use Rattle.std.proofs.lemmas.Option.{slice_get_read, slice_get-map, slice_get_within, get_or_from_slice_get}
-use Rattle.std.proofs.lemmas.List.{length-map, map-append, take-map, flat_map_more, take_more}
-use Rattle.tq_shape.specs.Journal.{state_from, IsLegalFrom, Has}
-use Rattle.tq_shape.specs.declared.part.Entry.{Entry}
+use Rattle.std.proofs.lemmas.{List.{length-map, map-append, take-map, flat_map_more, take_more}, Bool.false≢true}
+use Rattle.std.proofs.lemmas.List.Elements.{All-nil, All-cons, All-append, All-push, All-head, All-tail, All-map, All-weaker}
+use Rattle.std.specs.{Option.{option_map, option_and_then, is_some}, Prelude.slice_get, List.All}
+use Rattle.tq_shape.specs.{Journal.{state_from, IsLegalFrom, Has}, declared.part.Entry.Entry, declared.part.Part.Part}
 use Rattle.tq_shape.proofs.Joined.{legal-push, legal-reverse, reverse-legal}
-use Rattle.tq_node.specs.Records.{node_reply, node_after}
-use Rattle.tq_node.specs.NodeJournal.{nothing_stored, IsLegalNode, NodeEntry}
-use Rattle.tq_tables.specs.Parts.{AreLegalServers, AreLegal, bounds_of}
+use Rattle.tq_node.specs.{Records.{node_reply, node_after}, NodeJournal.{nothing_stored, IsLegalNode, NodeEntry}}
+use Rattle.tq_tables.specs.{Parts.{AreLegalServers, AreLegal, bounds_of}, Journals.JournalsView}
 use Rattle.tq_tables.proofs.RowLaws.{take-next}
 use Rattle.tq_core.specs.World.{item_at}
 use Rattle.tq_merge.specs.Wrong.{IsFirstWrong, IsLegalServer, IsWrongOfServer, IsWrongOfServers, IsWrong}
-use Rattle.tq_merge.proofs.Places.{item_at-suc}
-use Rattle.tq_shape.specs.declared.part.Part.{Part}
+use Rattle.tq_merge.specs.declared.claimed.EntryName.{EntryName}
+use Rattle.tq_merge.specs.Told.{IsWithin, Stands, names_in, names_of, all_names, entry_counts}
+use Rattle.tq_merge.proofs.{Places.item_at-suc, Runs.{legal_at, legal_server}}
 use Rattle.tq_shape.specs.declared.part.Part.TheVariants as parts
 use Rattle.tq_desk.specs.DeskJournal.{step_reply, step_after, opened_desk}
 use Rattle.tq_live.specs.View.{view_reply_at, view_after_at, view_state}
-use Rattle.tq_tables.specs.Journals.{JournalsView}
 use Rattle.tq_core.proofs.Journaled.{item_above}
-use Rattle.tq_merge.proofs.Runs.{legal_at, legal_server}
-use Rattle.std.specs.Prelude.{slice_get}
-use Rattle.std.specs.List.{All}
-use Rattle.std.proofs.lemmas.Bool.{false≢true}
-use Rattle.std.proofs.lemmas.List.Elements.{All-nil, All-cons, All-append, All-push, All-head, All-tail, All-map, All-weaker}
 use Rattle.tq_txn.specs.declared.asker.Exchange.{Exchange}
 use Rattle.tq_txn.specs.declared.asker.Exchange.TheVariants as exchanges
-use Rattle.tq_merge.specs.declared.claimed.EntryName.{EntryName}
-use Rattle.tq_merge.specs.Told.{IsWithin, Stands, names_in, names_of, all_names, entry_counts}
 
 -- ---- one entry more, and what was told at its ask
 

@@ -1,21 +1,15 @@
 -- The marks of the entries that are named.
 use Rattle.std.proofs.Common.{◌≡◌, inl, inr, ◌<◌, ◌≤◌, ◌+◌, ◌-◌, ◌==◌, ◌&&◌, ◌||◌, ℕ, zero, suc, Bool, true, false, not, cond, List, [], ◌∷◌, ◌++◌, length, get_or, set, take, drop, refl, sym, ap, subst, ◌∙◌, arith}
-use mathlib.Core.Bool.{not-not, or-false}
-use Rattle.std.proofs.Math.Path.{transport}
-use Rattle.std.specs.Prelude.{count_by}
-use Rattle.std.specs.List.{All, sum_by}
+use Rattle.std.proofs.{Math.Path.transport, lemmas.List.Elements.{All-get_or, All-from_get_or}}
 use Rattle.std.proofs.lemmas.Bool.{cases_eq, cases_Bool, and_parts, and_from, and_left, and_right, or_left, or_right, or_cases, eqb-true, eq-eqb, ne_eqb, false_from_ne_true, false≢true}
 use Rattle.std.proofs.lemmas.List.{get_or-set_same, get_or-set_other, get_or_default, length-set, take_more, take_all}
-use Rattle.std.proofs.lemmas.List.Elements.{All-get_or, All-from_get_or}
-use Rattle.std.proofs.lemmas.List.Folds.{list_any-append}
-use Rattle.std.proofs.lemmas.List.Sums.{count_by_more_yes, count_by_more_no, sum_by-cons}
-use Rattle.tq_shape.specs.Journal.{Has}
-use Rattle.tq_shape.specs.declared.part.Part.{Part}
-use Rattle.tq_merge.specs.declared.claimed.EntryName.{EntryName}
+use Rattle.std.proofs.lemmas.List.{Folds.list_any-append, Sums.{count_by_more_yes, count_by_more_no, sum_by-cons}}
+use mathlib.Core.Bool.{not-not, or-false}
+use Rattle.std.specs.{Prelude.count_by, List.{All, sum_by}}
+use Rattle.tq_shape.specs.{Journal.Has, declared.part.Part.Part}
+use Rattle.tq_merge.specs.{declared.claimed.EntryName.EntryName, Order.same_part}
 use Rattle.tq_merge.specs.Told.{place_of, part_at, is_named, unnamed_count, unnamed_from, AreDifferent, IsTwice, IsWithin}
-use Rattle.tq_merge.specs.Order.{same_part}
-use Rattle.tq_merge.proofs.LastNumbers.{splits, has_push, same_place, counted}
-use Rattle.tq_merge.proofs.Places.{same_part-is, same_part-refl}
+use Rattle.tq_merge.proofs.{LastNumbers.{splits, has_push, same_place, counted}, Places.{same_part-is, same_part-refl}}
 
 pub place-part_at : (place : ℕ) → place_of (part_at place) ≡ place
 place-part_at zero = refl

@@ -1,13 +1,9 @@
 -- How often an order names a part, prefixes of lists, and lists made item by item.
-use Rattle.std.specs.Prelude.{slice_get, slice_set}
+use Rattle.std.specs.{Prelude.{slice_get, slice_set}, Option.option_map}
 use Rattle.std.proofs.Common.{◌≡◌, ◌≢◌, ◌≤◌, ◌<◌, ◌+◌, ◌-◌, ℕ, zero, suc, Bool, true, false, cond, List, [], ◌∷◌, ◌++◌, length, take, replicate, Option, Some, None, refl, sym, ap, ◌∙◌, nat_lt, arith}
-use Rattle.std.specs.Option.{option_map}
-use Rattle.std.proofs.Math.Seq.{take-suc}
-use Rattle.std.proofs.lemmas.List.Sums.{fold-append}
+use Rattle.std.proofs.{Math.Seq.take-suc, lemmas.List.Sums.fold-append, lemmas.Bool.{eqb-true, eq-eqb, false≢true}}
 use Rattle.std.proofs.lemmas.Option.{slice_get_within, get_or_from_slice_get}
-use Rattle.std.proofs.lemmas.Bool.{eqb-true, eq-eqb, false≢true}
-use Rattle.tq_shape.specs.declared.part.Part.{Part}
-use Rattle.tq_shape.specs.declared.part.Part.TheVariants.{Server, Desk, View}
+use Rattle.tq_shape.specs.declared.part.{Part.Part, Part.TheVariants.{Server, Desk, View}}
 use Rattle.tq_core.specs.World.{item_at}
 use Rattle.tq_core.proofs.Journaled.{item_above, item_below}
 use Rattle.tq_merge.specs.Order.{same_part, times, each_from}

@@ -1,12 +1,9 @@
 -- Placing in the code's own words: its counts, its lists of journals, and where it begins.
-use Rattle.std.specs.Prelude.{slice_get, slice_set}
+use Rattle.std.specs.{Prelude.{slice_get, slice_set}, Option.option_map}
 use Rattle.std.proofs.Common.{◌≡◌, ◌≤◌, ◌<◌, ◌+◌, ◌-◌, ℕ, zero, suc, Bool, true, false, cond, List, [], ◌∷◌, ◌++◌, length, map, take, get_or, replicate, Some, refl, sym, ap, subst, ◌∙◌, ◌⊎◌, arith}
-use Rattle.std.proofs.Math.Path.{transport}
-use Rattle.std.specs.Option.{option_map}
-use Rattle.std.proofs.lemmas.Option.{slice_get_read, get_or_from_slice_get, slice_get-map}
+use Rattle.std.proofs.{Math.Path.transport, lemmas.Option.{slice_get_read, get_or_from_slice_get, slice_get-map}}
 use Rattle.std.proofs.lemmas.List.{length-map, replicate_more}
-use Rattle.tq_shape.specs.Journal.{Has}
-use Rattle.tq_shape.specs.declared.part.Part.{Part}
+use Rattle.tq_shape.specs.{Journal.Has, declared.part.Part.Part}
 use Rattle.tq_shape.specs.declared.part.Part.TheVariants as parts
 use Rattle.tq_asks.specs.declared.ask.CitedVote.{CitedVote}
 use Rattle.tq_tables.specs.Journals.{JournalsView, ViewEntry}
@@ -16,8 +13,7 @@ use Rattle.tq_core.specs.declared.answer.Step.TheVariants as steps
 use Rattle.tq_core.specs.World.{item_at}
 use Rattle.tq_merge.specs.Order.{same_part, times, each_from, IsNext, ArePlaced}
 use Rattle.tq_merge.specs.Placing.{PlacingView, is_placed, is_ready, IsNextWanted, IsPlacing, entries_left}
-use Rattle.tq_merge.proofs.Places.{times-more, item_at-suc, length_each, get_each, take_none}
-use Rattle.tq_merge.proofs.Greedy.{placed-more}
+use Rattle.tq_merge.proofs.{Places.{times-more, item_at-suc, length_each, get_each, take_none}, Greedy.placed-more}
 use Rattle.tq_merge.proofs.Placed.{server_more, server_last, server_next, server_waits, desk_more, desk_next, desk_never, desk_waits, met_more, left_less}
 
 -- ---- where it begins

@@ -1,25 +1,17 @@
 -- The least-cost definition, the view's replies and legal journals as they stood while a server had one cost. They are read
 -- without purposes: of a SetCost the first cost counts, which is the second too where both are equal.
 use Rattle.std.specs.Prelude.{◌≡◌, ◌↔◌, ◌≤◌, ◌==◌, ◌-◌, ◌^◌, ℕ, not, cond, List, [], ◌∷◌, ◌++◌, reverse, map, slice_index_or, Bool, false, Option, Some, None, filter, find, sum_by, ⊤}
-use Rattle.std.specs.List.{All, list_all}
-use Rattle.std.specs.Option.{unwrap_or}
-use Rattle.tq_shape.specs.Journal.{entry, IsLegalFrom}
-use Rattle.tq_shape.specs.declared.part.Part.{Part}
-use Rattle.tq_shape.specs.declared.part.Part.TheVariants.{View}
+use Rattle.std.specs.{List.{All, list_all}, Option.unwrap_or}
+use Rattle.tq_shape.specs.{Journal.{entry, IsLegalFrom}, declared.part.Part.Part, declared.part.Part.TheVariants.View}
 use Rattle.tq_coterie.specs.Coterie.{coterie}
-use Rattle.tq_live.specs.Least.{first_least}
-use Rattle.tq_live.specs.View.{is_server, is_cost, journal_mark, upwards}
-use Rattle.tq_live.specs.declared.view.ViewAsk.{ViewAsk}
-use Rattle.tq_live.specs.declared.view.ViewAsk.TheVariants.{SetCost, Mark, Choose}
-use Rattle.tq_live.specs.declared.view.ViewReply.{ViewReply}
-use Rattle.tq_live.specs.declared.view.ViewReply.TheVariants.{CostSet, Marked, Chosen, Refused}
+use Rattle.tq_live.specs.{Least.first_least, View.{is_server, is_cost, journal_mark, upwards}}
+use Rattle.tq_live.specs.declared.view.{ViewAsk.ViewAsk, ViewAsk.TheVariants.{SetCost, Mark, Choose}}
+use Rattle.tq_live.specs.declared.view.{ViewReply.ViewReply, ViewReply.TheVariants.{CostSet, Marked, Chosen, Refused}}
 use Rattle.tq_live.specs.declared.view.ViewRefusal.TheVariants.{NoSuchServer, BadCost, Blocked}
 use Rattle.tq_desk.specs.DeskJournal.{IsLegalDesk}
-use Rattle.tq_tables.specs.Journals.{JournalsView, ViewEntry}
-use Rattle.tq_tables.specs.Parts.{AreLegalServers, bounds_of}
+use Rattle.tq_tables.specs.{Journals.{JournalsView, ViewEntry}, Parts.{AreLegalServers, bounds_of}}
 use Rattle.tq_merge.specs.Order.{times, entries_of, counts_of, ArePlaced, IsNext, Explains, IsStuck}
-use Rattle.tq_merge.specs.Wrong.{IsFirstWrong, IsWrong}
-use Rattle.tq_merge.specs.declared.fault.Counts.{Counts}
+use Rattle.tq_merge.specs.{Wrong.{IsFirstWrong, IsWrong}, declared.fault.Counts.Counts}
 
 -- ---- least cost
 

@@ -1,16 +1,11 @@
 -- Orders of parts: the entries that an order places, one after another, and when it explains journals.
 use Rattle.std.specs.Prelude.{◌≡◌, ◌≤◌, ◌==◌, ◌+◌, ℕ, suc, Bool, true, false, List, [], ◌∷◌, ◌++◌, length, take, Option, Some, None, count_by}
 use Rattle.std.specs.Option.{option_map, option_to_list}
-use Rattle.tq_shape.specs.declared.part.Part.{Part}
-use Rattle.tq_shape.specs.declared.part.Part.TheVariants.{Server, Desk, View}
-use Rattle.tq_tables.specs.Journals.{JournalsView}
-use Rattle.tq_tables.specs.Parts.{AreLegal}
-use Rattle.tq_core.specs.declared.answer.Step.{Step}
+use Rattle.tq_shape.specs.declared.part.{Part.Part, Part.TheVariants.{Server, Desk, View}}
+use Rattle.tq_tables.specs.{Journals.JournalsView, Parts.AreLegal}
+use Rattle.tq_core.specs.{declared.answer.Step.Step, declared.citation.Citation.Citation, World.{item_at, server_entry}}
+use Rattle.tq_core.specs.{Founded.{unfounded_in_node_ask, unfounded_in_desk_ask}, Steps.server_journal}
 use Rattle.tq_core.specs.declared.answer.Step.TheVariants as steps
-use Rattle.tq_core.specs.declared.citation.Citation.{Citation}
-use Rattle.tq_core.specs.World.{item_at, server_entry}
-use Rattle.tq_core.specs.Founded.{unfounded_in_node_ask, unfounded_in_desk_ask}
-use Rattle.tq_core.specs.Steps.{server_journal}
 use Rattle.tq_merge.specs.declared.fault.Counts.{Counts}
 
 -- ---- how many entries

@@ -1,21 +1,15 @@
 -- The citations of an ask. What is kept while entries are placed.
 use Rattle.std.specs.Prelude.{List, [], ◌∷◌, ◌++◌, map, ◌≡◌, ◌≤◌, ◌&&◌, ◌+◌, ◌-◌, ℕ, suc, Bool, true, false, nat_le, is_none, length, take, Some}
 use Rattle.std.specs.Option.{option_to_list, option_map_or}
-use Rattle.tq_shape.specs.declared.part.Part.TheVariants.{Server, Desk, View}
-use Rattle.tq_asks.specs.declared.ask.CitedVote.{CitedVote}
-use Rattle.tq_desk.specs.declared.ask.DeskAsk.{DeskAsk}
+use Rattle.tq_shape.specs.{declared.part.Part.TheVariants.{Server, Desk, View}, Journal.Has, declared.part.Part.Part}
+use Rattle.tq_asks.specs.declared.ask.{CitedVote.CitedVote, NodeAsk.NodeAsk}
+use Rattle.tq_desk.specs.{declared.ask.DeskAsk.DeskAsk, DeskJournal.DeskEntry}
 use Rattle.tq_desk.specs.declared.ask.DeskAsk.TheVariants as desk_asks
 use Rattle.tq_evidence.specs.declared.op.Op.{Op}
-use Rattle.tq_core.specs.declared.answer.Step.{Step}
-use Rattle.tq_core.specs.declared.answer.Step.TheVariants as steps
-use Rattle.tq_core.specs.declared.citation.Citation.{Citation}
+use Rattle.tq_core.specs.{declared.answer.Step.Step, declared.citation.Citation.Citation, World.item_at}
 use Rattle.tq_core.specs.Founded.{cited_grant, cited_vote, cited_in_node_ask, unfounded_in_desk_ask, unfounded_in_node_ask}
-use Rattle.tq_shape.specs.Journal.{Has}
-use Rattle.tq_shape.specs.declared.part.Part.{Part}
-use Rattle.tq_asks.specs.declared.ask.NodeAsk.{NodeAsk}
+use Rattle.tq_core.specs.declared.answer.Step.TheVariants as steps
 use Rattle.tq_tables.specs.Journals.{JournalsView}
-use Rattle.tq_desk.specs.DeskJournal.{DeskEntry}
-use Rattle.tq_core.specs.World.{item_at}
 use Rattle.tq_merge.specs.Order.{times, each_from, counts_of, IsNext, ArePlaced}
 
 -- those of ops: their grants, op by op

@@ -3,32 +3,22 @@
 -- names come to that were told to callers. The names of the entries that a caller was told of. What comes of a cluster
 -- that is closed.
 use Rattle.std.specs.Prelude.{◌≡◌, ℕ, List, [], ◌∷◌, length, map, Option, Some, Ok, ⊤, ◌≤◌, ◌<◌, ◌==◌, ◌&&◌, ◌+◌, zero, suc, Bool, cond, ◌++◌, get_or, ◌⊎◌}
-use Rattle.std.specs.List.{flat_map, list_any, All}
-use Rattle.std.specs.Option.{option_map}
-use Rattle.tq_shape.specs.Journal.{entry, Has}
-use Rattle.tq_shape.specs.declared.part.Entry.{Entry}
-use Rattle.tq_shape.specs.declared.part.Part.{Part}
+use Rattle.std.specs.{List.{flat_map, list_any, All}, Option.option_map}
+use Rattle.tq_shape.specs.{Journal.{entry, Has}, declared.part.Entry.Entry, declared.part.Part.Part}
+use Rattle.tq_shape.specs.declared.part.Part.TheVariants.{Server, Desk, View}
 use Rattle.tq_shape.specs.declared.part.Part.TheVariants as parts
 use Rattle.tq_txn.specs.declared.asker.Exchange.{Exchange}
 use Rattle.tq_txn.specs.declared.asker.Exchange.TheVariants as exchanges
 use Rattle.tq_node.specs.NodeJournal.{NodeEntry}
 use Rattle.tq_desk.specs.DeskJournal.{DeskEntry}
 use Rattle.tq_tables.specs.Journals.{JournalsView, ViewEntry}
-use Rattle.tq_core.specs.World.{item_at, server_entry}
-use Rattle.tq_core.specs.declared.answer.Step.{Step}
+use Rattle.tq_core.specs.{World.{item_at, server_entry}, declared.answer.Step.Step, declared.answer.Reply.Reply}
 use Rattle.tq_core.specs.declared.answer.Step.TheVariants as steps
-use Rattle.tq_core.specs.declared.answer.Reply.{Reply}
 use Rattle.tq_core.specs.declared.answer.Reply.TheVariants as replies
-use Rattle.tq_merge.specs.declared.claimed.EntryName.{EntryName}
-use Rattle.tq_shape.specs.declared.part.Part.TheVariants.{Server, Desk, View}
-use Rattle.tq_merge.specs.Order.{same_part, IsStuck}
-use Rattle.tq_merge.specs.declared.compared.Comparison.{Comparison}
-use Rattle.tq_merge.specs.declared.compared.Comparison.TheVariants.{Kept, Differs}
-use Rattle.tq_merge.specs.declared.claimed.Claimed.{Claimed}
-use Rattle.tq_merge.specs.declared.claimed.Claimed.TheVariants.{Twice, Once}
-use Rattle.tq_merge.specs.declared.names.Names.{Names}
-use Rattle.tq_merge.specs.declared.names.Names.TheVariants.{Stand, Stray}
-use Rattle.tq_merge.specs.declared.fault.CloseFault.{CloseFault}
+use Rattle.tq_merge.specs.{declared.claimed.EntryName.EntryName, Order.{same_part, IsStuck}, declared.names.Names.Names}
+use Rattle.tq_merge.specs.declared.compared.{Comparison.Comparison, Comparison.TheVariants.{Kept, Differs}}
+use Rattle.tq_merge.specs.declared.claimed.{Claimed.Claimed, Claimed.TheVariants.{Twice, Once}}
+use Rattle.tq_merge.specs.declared.{names.Names.TheVariants.{Stand, Stray}, fault.CloseFault.CloseFault}
 use Rattle.tq_merge.specs.declared.fault.CloseFault.TheVariants as faults
 
 abbrev pub entry_name : Part → ℕ → EntryName

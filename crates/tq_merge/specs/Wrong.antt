@@ -1,19 +1,14 @@
 -- The first entry of the journals that is not legal. What a fault says of journals.
 use Rattle.std.specs.Prelude.{◌≡◌, ◌≢◌, ℕ, ◌-◌, List, [], take, reverse, Some, ⊤}
-use Rattle.tq_shape.specs.Journal.{state_from, IsLegalFrom}
-use Rattle.tq_shape.specs.declared.part.Entry.{Entry}
-use Rattle.tq_shape.specs.declared.part.Part.{Part}
+use Rattle.tq_shape.specs.{Journal.{state_from, IsLegalFrom}, declared.part.Entry.Entry, declared.part.Part.Part}
 use Rattle.tq_shape.specs.declared.part.Part.TheVariants.{Server, Desk, View}
-use Rattle.tq_node.specs.Records.{node_reply, node_after}
-use Rattle.tq_node.specs.NodeJournal.{nothing_stored, NodeEntry}
+use Rattle.tq_node.specs.{Records.{node_reply, node_after}, NodeJournal.{nothing_stored, NodeEntry}}
 use Rattle.tq_desk.specs.DeskJournal.{DeskBounds, IsLegalDesk, opened_desk, step_reply, step_after, DeskEntry}
 use Rattle.tq_live.specs.View.{view_reply_at, view_after_at, view_state}
-use Rattle.tq_tables.specs.Journals.{JournalsView, ViewEntry}
-use Rattle.tq_tables.specs.Parts.{AreLegalServers, bounds_of}
+use Rattle.tq_tables.specs.{Journals.{JournalsView, ViewEntry}, Parts.{AreLegalServers, bounds_of}}
 use Rattle.tq_core.specs.World.{item_at}
-use Rattle.tq_merge.specs.declared.fault.Fault.{Fault}
+use Rattle.tq_merge.specs.{declared.fault.Fault.Fault, Order.IsStuck}
 use Rattle.tq_merge.specs.declared.fault.Fault.TheVariants as faults
-use Rattle.tq_merge.specs.Order.{IsStuck}
 
 -- the entry of the number is not what the part gives there, and those before it are
 pub record IsFirstWrong {S A R : Type 0} (reply : S → ℕ → A → R) (after : S → ℕ → A → S) (opening : S) (entries : List (Entry A R)) (number : ℕ) : Type 0 where

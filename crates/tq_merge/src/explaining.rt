@@ -1,12 +1,9 @@
 //! The search for an order.
 
 ghost use Rattle.std.specs.Prelude.{◌≡◌, IfOk, IfErr};
-ghost use Rattle.tq_core.specs.Steps.{run};
-ghost use Rattle.tq_core.specs.Headline.{HasCommittedReads};
-ghost use Rattle.tq_tables.specs.Journals.{AreJournals};
-ghost use Rattle.tq_tables.specs.Parts.{AreLegal};
-ghost use Rattle.tq_merge.specs.Order.{Explains, asks_of};
-ghost use Rattle.tq_merge.specs.Wrong.{IsFault, BlamesNone};
+ghost use Rattle.tq_core.specs.{Steps.run, Headline.HasCommittedReads};
+ghost use Rattle.tq_tables.specs.{Journals.AreJournals, Parts.AreLegal};
+ghost use Rattle.tq_merge.specs.{Order.{Explains, asks_of}, Wrong.{IsFault, BlamesNone}};
 ghost use Rattle.tq_merge.specs.OneCost.{HasEqualCosts, AgreesByOne};
 
 use crate::Fault;

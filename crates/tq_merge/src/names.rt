@@ -1,7 +1,6 @@
 //! The names of what a caller was told.
 
-ghost use Rattle.std.specs.Prelude.{◌≡◌, IfOk};
-ghost use Rattle.std.specs.Option.{option_to_list};
+ghost use Rattle.std.specs.{Prelude.{◌≡◌, IfOk}, Option.option_to_list};
 ghost use Rattle.tq_merge.specs.Told as spec;
 ghost use Rattle.tq_merge.specs.Told.{AreNames};
 

@@ -1,7 +1,6 @@
 //! Whether what was told stands in the journals.
 
-ghost use Rattle.std.specs.Prelude.{◌≡◌, ◌↔◌, IsTrue, Some};
-ghost use Rattle.std.specs.Option.{option_copied};
+ghost use Rattle.std.specs.{Prelude.{◌≡◌, ◌↔◌, IsTrue, Some}, Option.option_copied};
 ghost use Rattle.tq_shape.specs.Journal.{entry};
 ghost use Rattle.tq_merge.specs.Told.{Stands};
 

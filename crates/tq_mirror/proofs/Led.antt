@@ -1,15 +1,10 @@
 -- Servers whose journals begin with what was pulled of them. Entries that a part gives where it stands.
 use Rattle.std.proofs.Common.{◌≡◌, ◌+◌, ◌⊎◌, ℕ, subst, sym, inl, inr, arith, ◌≤◌, ◌<◌, zero, suc, List, [], ◌∷◌, ◌++◌, length, take, get_or, ◌∙◌, ap}
-use Rattle.std.proofs.lemmas.Bool.{cases_eq}
-use Rattle.tq_tables.specs.Same.{Begins}
-use Rattle.tq_tables.specs.Journals.{JournalsView}
+use Rattle.std.proofs.lemmas.{Bool.cases_eq, List.{take_all, take_more}}
+use Rattle.tq_tables.specs.{Same.Begins, Journals.JournalsView, Parts.AreLegal, Tables.{TablesView, tables_of}}
 use Rattle.tq_mirror.specs.Prefixes.{server_prefix, ServersBegin}
-use Rattle.std.proofs.lemmas.List.{take_all, take_more}
-use Rattle.tq_shape.specs.declared.part.Entry.{Entry}
-use Rattle.tq_shape.specs.Journal.{entry, state_from, IsLegalFrom}
+use Rattle.tq_shape.specs.{declared.part.Entry.Entry, Journal.{entry, state_from, IsLegalFrom}}
 use Rattle.tq_shape.proofs.Places.{legal-snoc}
-use Rattle.tq_tables.specs.Parts.{AreLegal}
-use Rattle.tq_tables.specs.Tables.{TablesView, tables_of}
 
 -- one server more begins so
 pub one_begins : (prefixes journals : JournalsView) (place : ℕ) → ServersBegin prefixes journals (place + 1) → Begins (server_prefix prefixes (place + 1)) (server_prefix journals (place + 1)) → ServersBegin prefixes journals (place + 1 + 1)

@@ -1,38 +1,27 @@
 -- Prefixes that grow by entries of a part, beside the tables over them.
 use Rattle.std.proofs.Common.{◌≡◌, ◌<◌, ◌≤◌, ◌+◌, ◌-◌, ◌^◌, ◌↔◌, ℕ, zero, suc, Option, None, Some, Bool, false, IsTrue, List, [], ◌∷◌, ◌++◌, length, map, set, get_or, take, drop, replicate, refl, sym, ap, inl, subst, ◌∙◌, arith, append_assoc, append-nil}
+use Rattle.std.proofs.{Math.Seq.drop-append_seam, lemmas.Bool.iff_false, lemmas.Nat.pow_pos}
+use Rattle.std.proofs.lemmas.List.{get_or-map, length-map, length-set, length-take-le, length-replicate, length_push, map-set, take_all, set-set, set-get_or, get_or-set_same, length-append}
 use Rattle.std.specs.Prelude.{reverse, IfErr, IfOk, IfSome, MatchOption, OnErr, Result, Ok, Err}
 use Rattle.std.specs.Result.{IsErrAnd, result_unwrap_or}
-use Rattle.std.proofs.Math.Seq.{drop-append_seam}
-use Rattle.std.proofs.lemmas.List.{get_or-map, length-map, length-set, length-take-le, length-replicate, length_push, map-set, take_all, set-set, set-get_or, get_or-set_same, length-append}
-use Rattle.std.proofs.lemmas.Bool.{iff_false}
-use Rattle.std.proofs.lemmas.Nat.{pow_pos}
-use Rattle.tq_shape.specs.Limits.{LimitsView}
-use Rattle.tq_shape.specs.Tree.{IsServer}
-use Rattle.tq_shape.specs.Journal.{IsLegalFrom, state_from}
+use Rattle.tq_shape.specs.{Limits.LimitsView, Tree.IsServer, Journal.{IsLegalFrom, state_from}, declared.part.Part.Part}
 use Rattle.tq_shape.proofs.Joined.{legal-reverse, reverse-legal}
-use Rattle.tq_shape.specs.declared.part.Part.{Part}
 use Rattle.tq_shape.specs.declared.part.Part.TheVariants as parts
-use Rattle.tq_asks.specs.declared.ask.NodeAsk.{NodeAsk}
-use Rattle.tq_asks.specs.declared.ask.NodeReply.{NodeReply}
-use Rattle.tq_node.specs.Records.{NodeState, node_reply, node_after}
-use Rattle.tq_node.specs.Node.{NodeView, server_after}
+use Rattle.tq_asks.specs.declared.ask.{NodeAsk.NodeAsk, NodeReply.NodeReply}
+use Rattle.tq_node.specs.{Records.{NodeState, node_reply, node_after}, Node.{NodeView, server_after}}
 use Rattle.tq_node.specs.NodeJournal.{NodeEntry, IsLegalNode, nothing_stored}
 use Rattle.tq_desk.specs.DeskStep.{desk_reply}
-use Rattle.tq_desk.specs.DeskStep as desk
 use Rattle.tq_desk.specs.DeskJournal.{DeskEntry, IsLegalDesk, step_reply, step_after, opened_desk}
-use Rattle.tq_live.specs.Live.{Live}
-use Rattle.tq_live.specs.View.{IsLegalView, view_state, view_reply, view_reply_at, view_after_at}
+use Rattle.tq_desk.specs.DeskStep as desk
+use Rattle.tq_live.specs.{Live.Live, View.{IsLegalView, view_state, view_reply, view_reply_at, view_after_at}}
 use Rattle.tq_live.proofs.Journal.{replays}
-use Rattle.tq_tables.proofs.RowLaws.{answered-push}
-use Rattle.tq_tables.proofs.Restood.{is_there, node_in-at, node_is}
+use Rattle.tq_tables.proofs.{RowLaws.answered-push, Restood.{is_there, node_in-at, node_is}}
 use Rattle.tq_tables.specs.Tables.{MayAskDesk, MayAskNode, node_in, entries_of, with_node, TablesView, tables_of}
-use Rattle.tq_tables.specs.Journals.{JournalsView, ViewEntry, with_desk, with_view}
+use Rattle.tq_tables.specs.{Journals.{JournalsView, ViewEntry, with_desk, with_view}, Tabled.journals_in}
 use Rattle.tq_tables.specs.Parts.{AreLegal, AreLegalServers, bounds_of, node_after_all, desk_at, view_at}
-use Rattle.tq_mirror.specs.declared.entries.Entries.{Entries}
-use Rattle.tq_mirror.specs.declared.entries.Entries.TheVariants as entries
-use Rattle.tq_mirror.specs.declared.fault.PullFault.{PullFault}
+use Rattle.tq_mirror.specs.declared.{entries.Entries.Entries, fault.PullFault.PullFault}
 use Rattle.tq_mirror.specs.Prefixes.{GivesNext, IsForeign, IsPartOf, IsPullFault, IsTaken, count_of, nothing_pulled, prefix_length, server_prefix, journals_with, AreAhead, AreKept, AreLed}
-use Rattle.tq_tables.specs.Tabled.{journals_in}
+use Rattle.tq_mirror.specs.declared.entries.Entries.TheVariants as entries
 use Rattle.tq_mirror.proofs.Led.{Grows, Led, legal-joined, state-joined}
 
 -- ---- legal journals of servers

@@ -1,25 +1,17 @@
 -- What was pulled of the journals of a system: of each part the first entries. They are seen as journals. What is kept
 -- of the parts: their entries, and beside them the tables. Whether journals begin with what was pulled of them.
 use Rattle.std.specs.Prelude.{◌≡◌, ◌<◌, ◌≤◌, ◌⊎◌, ℕ, ◌+◌, ◌-◌, List, [], ◌++◌, length, get_or, set, ⊤, Result, OnOk, OnErr, IfErr, ◌^◌, Option, MatchOption}
-use Rattle.tq_shape.specs.Tree.{IsServer}
-use Rattle.tq_shape.specs.Limits.{LimitsView}
-use Rattle.tq_shape.specs.Journal.{IsLegalFrom}
-use Rattle.tq_shape.specs.declared.part.Part.{Part}
+use Rattle.tq_shape.specs.{Tree.IsServer, Limits.LimitsView, Journal.IsLegalFrom, declared.part.Part.Part}
 use Rattle.tq_shape.specs.declared.part.Part.TheVariants as parts
 use Rattle.tq_asks.specs.declared.ask.NodeAsk.{NodeAsk}
-use Rattle.tq_node.specs.Records.{node_reply}
-use Rattle.tq_node.specs.Node.{NodeView, server_after}
-use Rattle.tq_node.specs.NodeJournal.{NodeEntry}
+use Rattle.tq_node.specs.{Records.node_reply, Node.{NodeView, server_after}, NodeJournal.NodeEntry}
 use Rattle.tq_desk.specs.DeskJournal.{step_reply, step_after}
 use Rattle.tq_live.specs.View.{view_reply_at, view_after_at}
-use Rattle.tq_tables.specs.Journals.{JournalsView, no_entries}
-use Rattle.tq_tables.specs.Parts.{node_after_all, desk_at, view_at, AreLegal}
-use Rattle.tq_mirror.specs.declared.entries.Entries.{Entries}
+use Rattle.tq_tables.specs.{Journals.{JournalsView, no_entries}, Parts.{node_after_all, desk_at, view_at, AreLegal}}
+use Rattle.tq_tables.specs.{Tables.{TablesView, tables_of}, Same.Begins}
+use Rattle.tq_mirror.specs.declared.{entries.Entries.Entries, fault.PullFault.PullFault}
 use Rattle.tq_mirror.specs.declared.entries.Entries.TheVariants as entries
-use Rattle.tq_mirror.specs.declared.fault.PullFault.{PullFault}
 use Rattle.tq_mirror.specs.declared.fault.PullFault.TheVariants as faults
-use Rattle.tq_tables.specs.Tables.{TablesView, tables_of}
-use Rattle.tq_tables.specs.Same.{Begins}
 
 -- nothing was pulled of any part of a system
 abbrev pub nothing_pulled : ℕ → LimitsView → JournalsView

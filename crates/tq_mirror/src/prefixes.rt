@@ -2,8 +2,7 @@
 
 ghost use Rattle.std.specs.Prelude.{◌≡◌, ◌<◌, ◌^◌, ◌++◌, length, IfOk, OnOk, OnErr};
 ghost use Rattle.tq_shape.specs.Tree.{IsServer};
-ghost use Rattle.tq_tables.specs.Parts.{AreLegal};
-ghost use Rattle.tq_tables.specs.Tables.{tables_of};
+ghost use Rattle.tq_tables.specs.{Parts.AreLegal, Tables.tables_of};
 ghost use Rattle.tq_mirror.specs.Prefixes.{AreKept, IsTaken, nothing_pulled, server_prefix};
 
 use crate::entries::Entries;
@@ -45,8 +44,7 @@ impl Drop for Prefixes {
 
 impl Model for Prefixes {
     ghost use Rattle.std.specs.Prelude.{◌≡◌, IfSome};
-    ghost use Rattle.tq_tables.specs.Journals.{JournalsView};
-    ghost use Rattle.tq_tables.specs.Tabled.{journals_of};
+    ghost use Rattle.tq_tables.specs.{Journals.JournalsView, Tabled.journals_of};
     ghost use Rattle.tq_mirror.specs.Prefixes.{AreKept};
 
     ghost Value = { JournalsView };

@@ -1,47 +1,31 @@
 -- What a server replies, and what it is afterwards, is a step by the cases.
-use Rattle.std.specs.Prelude.{◌==◌, not, ◌&&◌, nat_le, IfOk, OnOk, Ok, Err, Result}
+use Rattle.std.specs.{Prelude.{◌==◌, not, ◌&&◌, nat_le, IfOk, OnOk, Ok, Err, Result}, Cmp.ranks}
+use Rattle.std.specs.{Cmp.Lexicographic.same_text, List.{AllByRecursion, find}, Option.{option_map_or, is_some}}
+use Rattle.std.specs.{Ordering.{MatchOrdering, nat_cmp, ordering_then}, declared.alloc.AllocError.AllocError}
+use Rattle.std.specs.declared.cmp.{Ordering.Ordering, Ordering.TheVariants.{Less, Equal, Greater}}
 use Rattle.std.proofs.Common.{◌≡◌, ℕ, ◌≤◌, ◌<◌, Bool, true, false, cond, List, [], ◌∷◌, ◌++◌, Option, Some, None, refl, sym, ap, subst, ◌∙◌, inl, inr, arith}
 use Rattle.std.proofs.lemmas.Bool.{cases_Bool, cond-true, cond-false, false≢true, true≢false, and_parts, and_from, eqb-true, eq-eqb, ne_eqb, leb-true, leb-false, not-true, not-false}
 use Rattle.std.proofs.lemmas.Cmp.{tied_itself, nat_list_cmp_total}
-use Rattle.std.specs.Cmp.{ranks}
-use Rattle.std.specs.Cmp.Lexicographic.{same_text}
 use Rattle.std.specs.FinMap as fin
-use Rattle.std.specs.List.{AllByRecursion, find}
-use Rattle.std.specs.Option.{option_map_or, is_some}
-use Rattle.std.specs.Ordering.{MatchOrdering, nat_cmp, ordering_then}
-use Rattle.std.specs.declared.alloc.AllocError.{AllocError}
-use Rattle.std.specs.declared.cmp.Ordering.{Ordering}
-use Rattle.std.specs.declared.cmp.Ordering.TheVariants.{Less, Equal, Greater}
 use Rattle.tq_shape.specs.Journal.{Has, is_empty, refuse, refuse_for, state_at}
-use Rattle.tq_store.specs.Copies.{name_cmp, copy_of, installed_all}
-use Rattle.tq_store.specs.declared.write.Write.{Write}
+use Rattle.tq_store.specs.{Copies.{name_cmp, copy_of, installed_all}, declared.write.Write.Write, Names.same_name}
 use Rattle.tq_locks.specs.Locks.{LockKey, lock_cmp, conflicts, is_exclusive, blocks, blocker, held_of, holds_nothing, locks_after_release, only_stable}
-use Rattle.tq_locks.specs.declared.mode.Lock.{Lock}
-use Rattle.tq_locks.specs.declared.mode.Mode.{Mode}
-use Rattle.tq_locks.specs.declared.mode.Mode.TheVariants.{Shared, Exclusive}
+use Rattle.tq_locks.specs.declared.mode.{Lock.Lock, Mode.Mode, Mode.TheVariants.{Shared, Exclusive}}
 use Rattle.tq_locks.proofs.Found.{locks_total, locks_same, entry_of, first_passes, get-entry_of}
-use Rattle.tq_intents.specs.declared.record.OpenVote.{OpenVote}
-use Rattle.tq_intents.specs.declared.record.Record.{Record}
-use Rattle.tq_asks.specs.declared.ask.CitedVote.{CitedVote}
-use Rattle.tq_asks.specs.declared.ask.NodeAsk.{NodeAsk}
-use Rattle.tq_asks.specs.declared.ask.NodeAsk.TheVariants.{Work, Crash, Return, CrashIn}
-use Rattle.tq_asks.specs.declared.ask.NodeRefusal.{NodeRefusal}
-use Rattle.tq_asks.specs.declared.ask.NodeRefusal.TheVariants as refusals
-use Rattle.tq_asks.specs.declared.ask.NodeReply.{NodeReply}
-use Rattle.tq_asks.specs.declared.ask.NodeReply.TheVariants as replies
-use Rattle.tq_asks.specs.declared.ask.Verdict.{Verdict}
-use Rattle.tq_asks.specs.declared.ask.Verdict.TheVariants.{Abort, Commit}
-use Rattle.tq_asks.specs.declared.ask.WorkAsk.{WorkAsk}
-use Rattle.tq_asks.specs.declared.ask.WorkAsk.TheVariants as work
+use Rattle.tq_intents.specs.declared.record.{OpenVote.OpenVote, Record.Record}
+use Rattle.tq_asks.specs.declared.ask.{CitedVote.CitedVote, NodeAsk.NodeAsk, NodeRefusal.NodeRefusal, Verdict.Verdict}
+use Rattle.tq_asks.specs.declared.ask.{NodeAsk.TheVariants.{Work, Crash, Return, CrashIn}, NodeReply.NodeReply}
+use Rattle.tq_asks.specs.declared.ask.{Verdict.TheVariants.{Abort, Commit}, WorkAsk.WorkAsk}
 use Rattle.tq_asks.specs.Verdicts.{cites_vote}
+use Rattle.tq_asks.specs.declared.ask.NodeRefusal.TheVariants as refusals
+use Rattle.tq_asks.specs.declared.ask.NodeReply.TheVariants as replies
+use Rattle.tq_asks.specs.declared.ask.WorkAsk.TheVariants as work
 use Rattle.tq_node.specs.Records.{Records, NodeState, has_vote, holds_exclusively, not_locked, are_good_writes, lock_refusal, prepare_refusal, release_refusal, work_refusal, refusal, open_vote, installs, work_reply, reply_of, work_after, records_after, answer_at, node_reply, node_after, kept_records, stop_writes}
-use Rattle.tq_node.specs.Cases.{IsStep, IsUp, Holds, Blocks, Cites}
+use Rattle.tq_node.specs.{Cases.{IsStep, IsUp, Holds, Blocks, Cites}, Node.{IsKept, NodeView, server_after}}
 use Rattle.tq_shape.proofs.Places.{Some-same, find-Has, none-Has, any-Has, Has-any}
-use Rattle.tq_node.specs.Node.{IsKept, NodeView, server_after}
+use Rattle.tq_shape.proofs.Options.{none_of, some_of, map-none}
 use Rattle.tq_node.proofs.KeptLocks.{kept_locks-stable, map-some, only_stable-twice}
 use Rattle.tq_store.proofs.Padded.{same_name-refl}
-use Rattle.tq_store.specs.Names.{same_name}
-use Rattle.tq_shape.proofs.Options.{none_of, some_of, map-none}
 
 -- ---- options and lists
 

@@ -1,22 +1,16 @@
 -- What one entry of a server's journal does to its records.
 use Rattle.std.proofs.Common.{◌≡◌, ◌≢◌, ℕ, ◌≤◌, ◌<◌, false, List, map, Some, ◌⊎◌}
 use Rattle.std.specs.FinMap as fin
-use Rattle.tq_store.specs.Copies.{copy_of}
-use Rattle.tq_store.specs.declared.write.Write.{Write}
-use Rattle.tq_locks.specs.Locks.{Locks, conflicts, lock_after}
-use Rattle.tq_locks.specs.declared.mode.Lock.{Lock}
-use Rattle.tq_locks.specs.declared.mode.Mode.{Mode}
+use Rattle.tq_store.specs.{Copies.copy_of, declared.write.Write.Write}
+use Rattle.tq_locks.specs.{Locks.{Locks, conflicts, lock_after}, declared.mode.Lock.Lock, declared.mode.Mode.Mode}
 use Rattle.tq_locks.specs.declared.mode.Mode.TheVariants.{Exclusive}
 use Rattle.tq_intents.specs.declared.record.OpenVote.{OpenVote}
-use Rattle.tq_node.specs.Records.{Records}
-use Rattle.tq_asks.specs.declared.ask.CitedVote.{CitedVote}
-use Rattle.tq_asks.specs.declared.ask.HeldLock.{HeldLock}
-use Rattle.tq_asks.specs.declared.ask.NodeAsk.TheVariants.{Work}
-use Rattle.tq_asks.specs.declared.ask.NodeReply.TheVariants as replies
-use Rattle.tq_asks.specs.declared.ask.Verdict.{Verdict}
-use Rattle.tq_asks.specs.declared.ask.WorkAsk.TheVariants as work
-use Rattle.tq_node.specs.NodeJournal.{NodeEntry, inner, IsCited, HasWrite}
+use Rattle.tq_node.specs.{Records.Records, NodeJournal.{NodeEntry, inner, IsCited, HasWrite}}
 use Rattle.tq_node.specs.NodeLaws.{IsOwner, held_kept, is_refusal}
+use Rattle.tq_asks.specs.declared.ask.{CitedVote.CitedVote, HeldLock.HeldLock, NodeAsk.TheVariants.Work}
+use Rattle.tq_asks.specs.declared.ask.Verdict.{Verdict}
+use Rattle.tq_asks.specs.declared.ask.NodeReply.TheVariants as replies
+use Rattle.tq_asks.specs.declared.ask.WorkAsk.TheVariants as work
 
 -- the locks are among the earlier ones, but for their being stable
 abbrev pub AreAmong : Locks → Locks → Type 0

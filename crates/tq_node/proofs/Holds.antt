@@ -2,23 +2,17 @@
 use Rattle.std.proofs.Common.{◌≡◌, ℕ, suc, ◌≤◌, ◌<◌, false, List, [], ◌∷◌, ◌++◌, length, Option, Some, None, refl, sym, ap, subst, ◌∙◌, ◌⊎◌, inl, inr, arith}
 use Rattle.std.proofs.lemmas.List.{length-append}
 use Rattle.std.specs.FinMap as fin
-use Rattle.tq_store.specs.Copies.{copy_of}
-use Rattle.tq_store.specs.declared.copies.FileCopy.{FileCopy}
-use Rattle.tq_locks.specs.Locks.{Locks, LockKey, stronger, lock_after}
-use Rattle.tq_locks.specs.declared.mode.Lock.{Lock}
-use Rattle.tq_locks.specs.declared.mode.Mode.{Mode}
-use Rattle.tq_locks.specs.declared.mode.Mode.TheVariants.{Shared, Exclusive}
+use Rattle.tq_store.specs.{Copies.copy_of, declared.copies.FileCopy.FileCopy}
+use Rattle.tq_locks.specs.{Locks.{Locks, LockKey, stronger, lock_after}, declared.mode.Lock.Lock}
+use Rattle.tq_locks.specs.declared.mode.{Mode.Mode, Mode.TheVariants.{Shared, Exclusive}}
 use Rattle.tq_intents.specs.declared.record.OpenVote.{OpenVote}
-use Rattle.tq_node.specs.Records.{Records}
-use Rattle.tq_asks.specs.declared.ask.NodeAsk.TheVariants.{Work}
-use Rattle.tq_asks.specs.declared.ask.NodeReply.TheVariants as replies
-use Rattle.tq_asks.specs.declared.ask.Verdict.{Verdict}
-use Rattle.tq_asks.specs.declared.ask.WorkAsk.TheVariants as work
-use Rattle.tq_node.specs.NodeJournal.{NodeEntry, IsLegalNode, GrantAt}
+use Rattle.tq_node.specs.{Records.Records, NodeJournal.{NodeEntry, IsLegalNode, GrantAt}}
 use Rattle.tq_node.specs.NodeLaws.{IsOwner, IsSameHold, IsUnbroken, TakenAt}
+use Rattle.tq_asks.specs.declared.ask.{NodeAsk.TheVariants.Work, Verdict.Verdict}
+use Rattle.tq_asks.specs.declared.ask.NodeReply.TheVariants as replies
+use Rattle.tq_asks.specs.declared.ask.WorkAsk.TheVariants as work
 use Rattle.tq_shape.proofs.Places.{at-old, at-new, at-bound}
-use Rattle.tq_node.proofs.Frames.{AreAmong, IsGrant, Frame}
-use Rattle.tq_node.proofs.ServerLaws.{votes_own, taken_old}
+use Rattle.tq_node.proofs.{Frames.{AreAmong, IsGrant, Frame}, ServerLaws.{votes_own, taken_old}}
 
 stronger-itself : (a : Mode) → stronger a a ≡ a
 stronger-itself Shared = refl

@@ -1,33 +1,22 @@
 -- A step by the cases is the one that the server makes: the cases leave nothing open.
-use Rattle.std.specs.Prelude.{not, nat_le, IfOk, OnOk, Ok, Err, Result}
+use Rattle.std.specs.{Prelude.{not, nat_le, IfOk, OnOk, Ok, Err, Result}, List.{AllByRecursion, find}}
+use Rattle.std.specs.{Option.{option_map, option_map_or, is_some}, declared.alloc.AllocError.AllocError}
 use Rattle.std.proofs.Common.{◌≡◌, ℕ, ◌≤◌, Bool, true, false, cond, List, [], ◌∷◌, ◌++◌, Option, Some, None, refl, sym, ap, ◌∙◌, inl, inr, arith}
 use Rattle.std.proofs.lemmas.Bool.{cases_Bool, cond-true, cond-false, le-leb, lt-leb}
 use Rattle.std.specs.FinMap as fin
-use Rattle.std.specs.List.{AllByRecursion, find}
-use Rattle.std.specs.Option.{option_map, option_map_or, is_some}
-use Rattle.std.specs.declared.alloc.AllocError.{AllocError}
-use Rattle.tq_store.specs.Copies.{copy_of, installed_all}
-use Rattle.tq_store.specs.declared.copies.FileCopy.{FileCopy}
+use Rattle.tq_store.specs.{Copies.{copy_of, installed_all}, declared.copies.FileCopy.FileCopy}
 use Rattle.tq_store.specs.declared.write.Write.{Write}
 use Rattle.tq_locks.specs.Locks.{is_exclusive, blocker, locks_after_grant, held_of, holds_nothing, locks_after_release}
+use Rattle.tq_locks.specs.declared.mode.{Lock.Lock, Mode.Mode, Mode.TheVariants.Exclusive}
 use Rattle.tq_shape.specs.Journal.{is_empty, refuse, refuse_for, state_at}
-use Rattle.tq_locks.specs.declared.mode.Lock.{Lock}
-use Rattle.tq_locks.specs.declared.mode.Mode.{Mode}
-use Rattle.tq_locks.specs.declared.mode.Mode.TheVariants.{Exclusive}
-use Rattle.tq_intents.specs.declared.record.OpenVote.{OpenVote}
-use Rattle.tq_intents.specs.declared.record.Record.{Record}
-use Rattle.tq_asks.specs.declared.ask.CitedVote.{CitedVote}
-use Rattle.tq_asks.specs.declared.ask.NodeAsk.{NodeAsk}
-use Rattle.tq_asks.specs.declared.ask.NodeAsk.TheVariants.{Work, Crash, Return, CrashIn}
-use Rattle.tq_asks.specs.declared.ask.NodeRefusal.{NodeRefusal}
-use Rattle.tq_asks.specs.declared.ask.NodeRefusal.TheVariants as refusals
-use Rattle.tq_asks.specs.declared.ask.NodeReply.{NodeReply}
+use Rattle.tq_intents.specs.declared.record.{OpenVote.OpenVote, Record.Record}
+use Rattle.tq_asks.specs.declared.ask.{CitedVote.CitedVote, NodeAsk.NodeAsk, NodeRefusal.NodeRefusal, Verdict.Verdict}
+use Rattle.tq_asks.specs.declared.ask.{NodeAsk.TheVariants.{Work, Crash, Return, CrashIn}, NodeReply.NodeReply}
 use Rattle.tq_asks.specs.declared.ask.NodeReply.TheVariants.{Granted, Yes, Installed, Discarded, Released, Copy, Refreshed, Crashed, Returned, Refused}
-use Rattle.tq_asks.specs.declared.ask.Verdict.{Verdict}
-use Rattle.tq_asks.specs.declared.ask.WorkAsk.TheVariants as work
-use Rattle.tq_node.specs.Cases.{IsOnlyStep, IsStep, Holds, Blocks, Cites}
-use Rattle.tq_node.specs.Node.{NodeView, server_after}
 use Rattle.tq_asks.specs.Verdicts.{cites_vote}
+use Rattle.tq_asks.specs.declared.ask.NodeRefusal.TheVariants as refusals
+use Rattle.tq_asks.specs.declared.ask.WorkAsk.TheVariants as work
+use Rattle.tq_node.specs.{Cases.{IsOnlyStep, IsStep, Holds, Blocks, Cites}, Node.{NodeView, server_after}}
 use Rattle.tq_node.specs.Records.{Records, has_vote, holds_exclusively, not_locked, are_good_writes, refusal, open_vote, installs, reply_of, records_after, writes_of, answer_at, node_reply}
 use Rattle.tq_node.proofs.ByCases.{blocker_is, nothing_blocks, holds_is, cites_is, cites_not, state_at-records}
 

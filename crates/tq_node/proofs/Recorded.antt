@@ -1,21 +1,15 @@
 -- At all times the stable records of a server are those of its copies, its open votes and their locks.
-use Rattle.std.specs.Prelude.{not}
+use Rattle.std.specs.{Prelude.not, Option.is_some}
 use Rattle.std.proofs.Common.{◌≡◌, ℕ, suc, ◌+◌, ◌≤◌, Bool, true, false, cond, List, [], ◌∷◌, ◌++◌, map, filter, Option, Some, None, refl, sym, ap, subst, ◌∙◌, arith, append_assoc}
 use Rattle.std.proofs.lemmas.List.{append-nil}
 use Rattle.std.specs.FinMap as fin
-use Rattle.std.specs.Option.{is_some}
-use Rattle.tq_store.specs.Copies.{Files, installed_all, is_newer}
-use Rattle.tq_store.specs.declared.write.Write.{Write}
+use Rattle.tq_store.specs.{Copies.{Files, installed_all, is_newer}, declared.write.Write.Write}
 use Rattle.tq_locks.specs.Locks.{Locks, held_of, locks_after_release, only_stable}
-use Rattle.tq_intents.specs.Kept.{Votes, kept_votes, vote_at}
-use Rattle.tq_intents.specs.declared.record.KeptLock.{KeptLock}
-use Rattle.tq_intents.specs.declared.record.OpenVote.{OpenVote}
-use Rattle.tq_intents.specs.declared.record.Record.{Record}
-use Rattle.tq_intents.specs.declared.record.Record.TheVariants.{Copy, Gone}
+use Rattle.tq_intents.specs.{Kept.{Votes, kept_votes, vote_at}, declared.record.KeptLock.KeptLock}
+use Rattle.tq_intents.specs.declared.record.{OpenVote.OpenVote, Record.Record, Record.TheVariants.{Copy, Gone}}
 use Rattle.tq_intents.proofs.Votes.{kept_votes-ended, kept_votes-given}
-use Rattle.tq_asks.specs.declared.ask.NodeRefusal.{NodeRefusal}
+use Rattle.tq_asks.specs.declared.ask.{NodeRefusal.NodeRefusal, WorkAsk.WorkAsk}
 use Rattle.tq_asks.specs.declared.ask.NodeRefusal.TheVariants as refusals
-use Rattle.tq_asks.specs.declared.ask.WorkAsk.{WorkAsk}
 use Rattle.tq_asks.specs.declared.ask.WorkAsk.TheVariants as work
 use Rattle.tq_node.specs.Node.{IsKept, IsSound}
 use Rattle.tq_node.specs.Records.{Records, NodeState, has_vote, work_refusal, open_vote, installs, kept_lock, work_after, work_writes}

@@ -2,27 +2,17 @@
 use Rattle.std.proofs.Common.{◌≡◌, ◌≢◌, ℕ, suc, ◌≤◌, ◌<◌, false, List, [], ◌∷◌, length, Option, Some, None, refl, sym, ap, subst, ◌∙◌, ◌⊎◌, inl, inr, arith}
 use Rattle.std.proofs.lemmas.Bool.{true≢false}
 use Rattle.std.specs.FinMap as fin
-use Rattle.tq_store.specs.Copies.{copy_of, copy_at}
-use Rattle.tq_store.specs.declared.copies.FileCopy.{FileCopy}
-use Rattle.tq_store.specs.declared.write.Write.{Write}
-use Rattle.tq_locks.specs.Locks.{conflicts, stronger, lock_after, HasNoConflict}
-use Rattle.tq_locks.specs.declared.mode.Lock.{Lock}
-use Rattle.tq_locks.specs.declared.mode.Mode.{Mode}
-use Rattle.tq_locks.specs.declared.mode.Mode.TheVariants.{Shared, Exclusive}
-use Rattle.tq_intents.specs.Kept.{stable_lock}
-use Rattle.tq_intents.specs.declared.record.KeptLock.{KeptLock}
-use Rattle.tq_intents.specs.declared.record.OpenVote.{OpenVote}
-use Rattle.tq_node.specs.Records.{Records}
-use Rattle.tq_asks.specs.declared.ask.HeldLock.{HeldLock}
+use Rattle.tq_store.specs.{Copies.{copy_of, copy_at}, declared.copies.FileCopy.FileCopy, declared.write.Write.Write}
+use Rattle.tq_locks.specs.{Locks.{conflicts, stronger, lock_after, HasNoConflict}, declared.mode.Lock.Lock}
+use Rattle.tq_locks.specs.declared.mode.{Mode.Mode, Mode.TheVariants.{Shared, Exclusive}}
+use Rattle.tq_intents.specs.{Kept.stable_lock, declared.record.KeptLock.KeptLock, declared.record.OpenVote.OpenVote}
+use Rattle.tq_node.specs.{Records.Records, NodeLaws.{HasOrigin, IsBase, held_kept, IsStanding, IsEnded, TakenAt}}
+use Rattle.tq_node.specs.NodeJournal.{NodeEntry, IsLegalNode, inner, IsCited, GrantAt, TellsAt, YesAt, InnerAt, DecisionAt, HasHeld, HasWrite}
+use Rattle.tq_asks.specs.declared.ask.{HeldLock.HeldLock, Verdict.Verdict, WorkAsk.WorkAsk, NodeAsk.NodeAsk}
+use Rattle.tq_asks.specs.declared.ask.NodeAsk.TheVariants.{Work}
 use Rattle.tq_asks.specs.declared.ask.NodeReply.TheVariants as replies
-use Rattle.tq_asks.specs.declared.ask.Verdict.{Verdict}
-use Rattle.tq_asks.specs.declared.ask.WorkAsk.{WorkAsk}
 use Rattle.tq_asks.specs.declared.ask.WorkAsk.TheVariants as work
 use Rattle.tq_shape.specs.Journal.{Has}
-use Rattle.tq_asks.specs.declared.ask.NodeAsk.{NodeAsk}
-use Rattle.tq_asks.specs.declared.ask.NodeAsk.TheVariants.{Work}
-use Rattle.tq_node.specs.NodeJournal.{NodeEntry, IsLegalNode, inner, IsCited, GrantAt, TellsAt, YesAt, InnerAt, DecisionAt, HasHeld, HasWrite}
-use Rattle.tq_node.specs.NodeLaws.{HasOrigin, IsBase, held_kept, IsStanding, IsEnded, TakenAt}
 use Rattle.tq_shape.proofs.Places.{at-cases, at-old, at-new, at-bound, Has-map}
 use Rattle.tq_node.proofs.Frames.{AreAmong, IsGrant, VotesOwn, IsRaised, Tells, Frame}
 

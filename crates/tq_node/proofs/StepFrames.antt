@@ -1,45 +1,32 @@
 -- What each ask of a server does to its records: the frames hold of its step.
-use Rattle.std.specs.Prelude.{◌==◌, not}
+use Rattle.std.specs.{Prelude.{◌==◌, not}, Cmp.nat_cmp_total, FinMap.nat_cmp-IsAntisymmetric, List.{find, filter}}
+use Rattle.std.specs.Option.{option_map, option_map_or}
 use Rattle.std.proofs.Common.{◌≡◌, ◌≢◌, ℕ, ◌≤◌, ◌<◌, Bool, true, false, cond, List, [], ◌∷◌, map, Option, Some, None, refl, sym, ap, subst, ◌∙◌, ◌⊎◌, inl, inr, arith}
 use Rattle.std.proofs.lemmas.Bool.{cases_Bool, cond-true, false≢true, true≢false, and_from, eqb-true, ne_eqb, eq-eqb}
-use Rattle.std.specs.Cmp.{nat_cmp_total}
 use Rattle.std.specs.FinMap as fin
-use Rattle.std.specs.FinMap.{nat_cmp-IsAntisymmetric}
-use Rattle.std.specs.List.{find, filter}
-use Rattle.std.specs.Option.{option_map, option_map_or}
-use Rattle.tq_store.specs.Copies.{Files, copy_of, installed_all}
-use Rattle.tq_store.specs.declared.copies.FileCopy.{FileCopy}
+use Rattle.tq_store.specs.{Copies.{Files, copy_of, installed_all}, declared.copies.FileCopy.FileCopy}
 use Rattle.tq_store.specs.declared.write.Write.{Write}
 use Rattle.tq_locks.specs.Locks.{Locks, LockKey, conflicts, is_exclusive, lock_after, blocks, blocker, locks_after_grant, held_of, holds_nothing, locks_after_release, entry_after_keep, locks_after_keep}
-use Rattle.tq_locks.specs.declared.mode.Lock.{Lock}
-use Rattle.tq_locks.specs.declared.mode.Mode.{Mode}
-use Rattle.tq_locks.specs.declared.mode.Mode.TheVariants.{Shared, Exclusive}
-use Rattle.tq_locks.proofs.Found.{locks_total, locks_same, entry_of, get-entry_of}
-use Rattle.tq_intents.specs.Kept.{Votes, stable_lock}
-use Rattle.tq_intents.specs.declared.record.KeptLock.{KeptLock}
+use Rattle.tq_locks.specs.declared.mode.{Lock.Lock, Mode.Mode, Mode.TheVariants.{Shared, Exclusive}}
+use Rattle.tq_locks.proofs.{Found.{locks_total, locks_same, entry_of, get-entry_of}, Locked.get-kept}
+use Rattle.tq_intents.specs.{Kept.{Votes, stable_lock}, declared.record.KeptLock.KeptLock}
 use Rattle.tq_intents.specs.declared.record.OpenVote.{OpenVote}
 use Rattle.tq_node.specs.Records.{Records, has_vote, holds_exclusively, not_locked, are_good_writes, work_refusal, open_vote, installs, held_lock, kept_lock, work_reply, work_after, records_after_crash, answer_at}
-use Rattle.tq_shape.specs.Journal.{refuse, refuse_for, refuse-none, refuse_for-none, Has}
-use Rattle.tq_asks.specs.declared.ask.CitedVote.{CitedVote}
-use Rattle.tq_asks.specs.declared.ask.HeldLock.{HeldLock}
-use Rattle.tq_asks.specs.declared.ask.NodeAsk.{NodeAsk}
-use Rattle.tq_asks.specs.declared.ask.NodeAsk.TheVariants.{Work, Crash, Return}
-use Rattle.tq_asks.specs.declared.ask.NodeRefusal.{NodeRefusal}
-use Rattle.tq_asks.specs.declared.ask.NodeRefusal.TheVariants as refusals
-use Rattle.tq_asks.specs.declared.ask.NodeReply.{NodeReply}
-use Rattle.tq_asks.specs.declared.ask.NodeReply.TheVariants as replies
-use Rattle.tq_asks.specs.declared.ask.Verdict.{Verdict}
-use Rattle.tq_asks.specs.declared.ask.WorkAsk.{WorkAsk}
-use Rattle.tq_asks.specs.declared.ask.WorkAsk.TheVariants as work
 use Rattle.tq_node.specs.NodeJournal.{NodeEntry, node_state, IsLegalNode, IsCited, HasWrite}
 use Rattle.tq_node.specs.NodeLaws.{IsOwner, held_kept, is_refusal}
+use Rattle.tq_shape.specs.Journal.{refuse, refuse_for, refuse-none, refuse_for-none, Has}
+use Rattle.tq_asks.specs.declared.ask.{CitedVote.CitedVote, HeldLock.HeldLock, NodeAsk.NodeAsk, NodeRefusal.NodeRefusal}
+use Rattle.tq_asks.specs.declared.ask.{NodeAsk.TheVariants.{Work, Crash, Return}, NodeReply.NodeReply, Verdict.Verdict}
+use Rattle.tq_asks.specs.declared.ask.WorkAsk.{WorkAsk}
+use Rattle.tq_asks.specs.declared.ask.NodeRefusal.TheVariants as refusals
+use Rattle.tq_asks.specs.declared.ask.NodeReply.TheVariants as replies
+use Rattle.tq_asks.specs.declared.ask.WorkAsk.TheVariants as work
 use Rattle.tq_shape.proofs.Places.{none-Has, Has-map, map-Has, Has-filter, filter-Has}
+use Rattle.tq_shape.proofs.Options.{none_of, some_of, map-none}
 use Rattle.tq_node.proofs.Frames.{AreAmong, IsYes, IsRaised, Tells, Frame}
 use Rattle.tq_node.proofs.Installed.{insert-same, insert-other, insert-cases, remove-other, remove-cases, retain-from, installed-cases, all-low, all-cases}
-use Rattle.tq_locks.proofs.Locked.{get-kept}
 use Rattle.tq_node.proofs.KeptLocks.{map-some, stabled, stabled-own, stabled-other, get-own, released-other, only_stable-in}
 use Rattle.tq_store.proofs.Padded.{same_name-refl}
-use Rattle.tq_shape.proofs.Options.{none_of, some_of, map-none}
 
 exclusive_mode : (m : Mode) → is_exclusive m ≡ true → m ≡ Exclusive
 exclusive_mode Exclusive h = refl

@@ -1,37 +1,27 @@
 -- What a server leaves that stops in the midst of an ask, after some of its records.
-use Rattle.std.specs.Prelude.{take}
+use Rattle.std.specs.{Prelude.take, Option.option_map_or}
 use Rattle.std.proofs.Common.{◌≡◌, ℕ, suc, zero, ◌+◌, Bool, true, false, cond, List, [], ◌∷◌, ◌++◌, map, filter, Option, Some, None, refl, sym, ap, subst, ◌∙◌, ◌⊎◌, inl, inr, arith, append_assoc}
 use Rattle.std.proofs.lemmas.Bool.{true≢false, eq-eqb}
 use Rattle.std.specs.FinMap as fin
-use Rattle.std.specs.Option.{option_map_or}
 use Rattle.tq_shape.specs.Journal.{Has, state_at}
 use Rattle.tq_shape.proofs.Places.{Has-map, Has-append, Has-filter}
-use Rattle.tq_store.specs.Copies.{copy_of, installed_all, is_newer}
-use Rattle.tq_store.specs.declared.write.Write.{Write}
-use Rattle.tq_locks.specs.Locks.{Locks, LockKey, held_of, only_stable}
-use Rattle.tq_locks.specs.declared.mode.Lock.{Lock}
+use Rattle.tq_store.specs.{Copies.{copy_of, installed_all, is_newer}, declared.write.Write.Write}
+use Rattle.tq_locks.specs.{Locks.{Locks, LockKey, held_of, only_stable}, declared.mode.Lock.Lock}
 use Rattle.tq_locks.specs.declared.mode.Mode.{Mode}
 use Rattle.tq_locks.proofs.Found.{locks_total, locks_same}
-use Rattle.tq_intents.specs.declared.record.KeptLock.{KeptLock}
-use Rattle.tq_intents.specs.declared.record.OpenVote.{OpenVote}
-use Rattle.tq_intents.specs.declared.record.Record.{Record}
+use Rattle.tq_intents.specs.declared.record.{KeptLock.KeptLock, OpenVote.OpenVote, Record.Record}
 use Rattle.tq_intents.specs.declared.record.Record.TheVariants.{Copy, Intent, Keep, Prepared, Gone}
-use Rattle.tq_asks.specs.declared.ask.NodeAsk.TheVariants.{Work, CrashIn}
-use Rattle.tq_asks.specs.declared.ask.NodeRefusal.{NodeRefusal}
-use Rattle.tq_asks.specs.declared.ask.NodeReply.TheVariants as replies
-use Rattle.tq_asks.specs.declared.ask.Verdict.{Verdict}
+use Rattle.tq_intents.specs.Kept.{is_dead, AreDead}
+use Rattle.tq_asks.specs.declared.ask.{NodeAsk.TheVariants.{Work, CrashIn}, NodeRefusal.NodeRefusal, Verdict.Verdict}
 use Rattle.tq_asks.specs.declared.ask.WorkAsk.{WorkAsk}
+use Rattle.tq_asks.specs.declared.ask.NodeReply.TheVariants as replies
 use Rattle.tq_asks.specs.declared.ask.WorkAsk.TheVariants as work
-use Rattle.tq_node.specs.NodeJournal.{NodeEntry, inner, IsCited}
+use Rattle.tq_node.specs.{NodeJournal.{NodeEntry, inner, IsCited}, NodeLaws.is_refusal}
 use Rattle.tq_node.specs.Records.{Records, NodeState, work_refusal, open_vote, installs, kept_lock, work_reply, work_after, work_writes, records_after_crash, records_after, stop_writes}
-use Rattle.tq_node.proofs.Installed.{retain-from, all-cases}
-use Rattle.tq_node.proofs.KeptLocks.{only_stable-in}
-use Rattle.tq_node.specs.NodeLaws.{is_refusal}
+use Rattle.tq_node.proofs.{Installed.{retain-from, all-cases}, KeptLocks.only_stable-in, Frames.{IsRaised, Frame}}
 use Rattle.tq_node.proofs.Sound.{above_greater, sound-crashed, sound-dead}
-use Rattle.tq_node.proofs.Frames.{IsRaised, Frame}
 use Rattle.tq_node.proofs.StepFrames.{work_frame, calm_frame, owner_stays, left_retained, among_retained, is_prepare, is_telling, no_yes, no_tell}
 use Rattle.tq_node.proofs.Recorded.{IsRecorded, recorded_kept, recorded_copies, work_recorded, the_vote}
-use Rattle.tq_intents.specs.Kept.{is_dead, AreDead}
 use Rattle.tq_intents.proofs.DeadRecords.{kept_votes-dead}
 
 abbrev pub is_lock : WorkAsk → Bool

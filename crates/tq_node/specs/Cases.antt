@@ -1,23 +1,16 @@
 -- The step of a server as a relation by cases, one for each refusal and each answer.
 use Rattle.std.specs.Prelude.{◌≡◌, ◌≢◌, ◌≤◌, ◌<◌, ℕ, true, false, List, [], ◌∷◌, ◌++◌, map, Some, None, IsSome}
-use Rattle.std.specs.FinMap as fin
 use Rattle.std.specs.List.{AllByRecursion}
+use Rattle.std.specs.FinMap as fin
 use Rattle.tq_shape.specs.Journal.{Has}
-use Rattle.tq_store.specs.Copies.{copy_of, copies_after_install, installed_all}
-use Rattle.tq_store.specs.declared.write.Write.{Write}
+use Rattle.tq_store.specs.{Copies.{copy_of, copies_after_install, installed_all}, declared.write.Write.Write}
 use Rattle.tq_locks.specs.Locks.{conflicts, locks_after_grant, held_of, locks_after_release, only_stable, locks_after_keep}
-use Rattle.tq_locks.specs.declared.mode.Lock.{Lock}
-use Rattle.tq_locks.specs.declared.mode.Mode.{Mode}
-use Rattle.tq_locks.specs.declared.mode.Mode.TheVariants.{Exclusive}
-use Rattle.tq_intents.specs.declared.record.OpenVote.{OpenVote}
-use Rattle.tq_intents.specs.declared.record.Record.{Record}
-use Rattle.tq_asks.specs.declared.ask.NodeAsk.{NodeAsk}
-use Rattle.tq_asks.specs.declared.ask.NodeAsk.TheVariants.{Work, Crash, Return, CrashIn}
-use Rattle.tq_asks.specs.declared.ask.NodeRefusal.{NodeRefusal}
+use Rattle.tq_locks.specs.declared.mode.{Lock.Lock, Mode.Mode, Mode.TheVariants.Exclusive}
+use Rattle.tq_intents.specs.declared.record.{OpenVote.OpenVote, Record.Record}
+use Rattle.tq_asks.specs.declared.ask.{NodeAsk.NodeAsk, NodeAsk.TheVariants.{Work, Crash, Return, CrashIn}}
+use Rattle.tq_asks.specs.declared.ask.{NodeRefusal.NodeRefusal, NodeReply.NodeReply, Verdict.Verdict}
 use Rattle.tq_asks.specs.declared.ask.NodeRefusal.TheVariants.{Down, AlreadyUp, AlreadyDown, Held, Prepared, NotLocked, BadWrites, NotNewer, NothingHere}
-use Rattle.tq_asks.specs.declared.ask.NodeReply.{NodeReply}
 use Rattle.tq_asks.specs.declared.ask.NodeReply.TheVariants.{Granted, Yes, Installed, Discarded, Released, Copy, Refreshed, Crashed, Returned, Refused}
-use Rattle.tq_asks.specs.declared.ask.Verdict.{Verdict}
 use Rattle.tq_asks.specs.declared.ask.Verdict.TheVariants.{Abort, Commit}
 use Rattle.tq_asks.specs.declared.ask.WorkAsk.TheVariants.{Lock as LockAsk, Prepare, Decide, Release, Peek, Refresh}
 use Rattle.tq_node.specs.Node.{NodeView}

@@ -4,16 +4,12 @@ use Rattle.std.specs.Coded.{Coded, code_by, coded×, coded_list, coded_ℕ, code
 use Rattle.std.specs.FinMap as fin
 use Rattle.tq_shape.specs.Journal.{Has}
 use Rattle.tq_store.specs.Copies.{Files, files_code}
-use Rattle.tq_locks.specs.Locks.{Locks, locks_code, only_stable}
-use Rattle.tq_locks.specs.declared.mode.Lock.{Lock}
+use Rattle.tq_locks.specs.{Locks.{Locks, locks_code, only_stable}, declared.mode.Lock.Lock}
 use Rattle.tq_intents.specs.Kept.{Votes, HasOneVoteEach, IsAbove, kept_copies, kept_votes, stable_lock}
-use Rattle.tq_intents.specs.declared.record.KeptLock.{KeptLock}
-use Rattle.tq_intents.specs.declared.record.OpenVote.{OpenVote}
-use Rattle.tq_intents.specs.declared.record.Record.{Record}
+use Rattle.tq_intents.specs.declared.record.{KeptLock.KeptLock, OpenVote.OpenVote, Record.Record}
 use Rattle.tq_intents.specs.declared.record.Record.TheVariants as stable
 use Rattle.tq_node.specs.Records.{Records, NodeState, node_after, node_reply, kept_records}
-use Rattle.tq_asks.specs.declared.ask.NodeAsk.{NodeAsk}
-use Rattle.tq_asks.specs.declared.ask.NodeReply.{NodeReply}
+use Rattle.tq_asks.specs.declared.ask.{NodeAsk.NodeAsk, NodeReply.NodeReply}
 
 pub record NodeView : Type 0 where
   -- the levels of its tree, and its number there

@@ -2,28 +2,21 @@
 -- the plans of a server's asks are.
 use Rattle.std.specs.Prelude.{◌≡◌, ◌<◌, ℕ, Bool, true, false, List, [], ◌∷◌, ◌++◌, ◌==◌, map, filter, length, take, nat_le, nat_lt, None, IsSome, if◌then◌else◌}
 use Rattle.std.specs.FinMap as fin
-use Rattle.tq_store.specs.declared.write.Write.{Write}
+use Rattle.tq_store.specs.{declared.write.Write.Write, Copies.{copy_of, copies_after_install, installed_all, is_newer}}
 use Rattle.tq_locks.specs.declared.mode.Mode.{Mode}
-use Rattle.tq_store.specs.Copies.{copy_of, copies_after_install, installed_all, is_newer}
 use Rattle.tq_locks.specs.Locks.{blocker, locks_after_grant, held_of, locks_after_release, locks_after_keep as stabilised_locks}
-use Rattle.tq_intents.specs.Kept.{AreDead, vote_records}
-use Rattle.tq_intents.specs.declared.record.KeptLock.{KeptLock}
+use Rattle.tq_intents.specs.{Kept.{AreDead, vote_records}, declared.record.KeptLock.KeptLock}
 use Rattle.tq_intents.specs.declared.record.Record.{Record}
 use Rattle.tq_intents.specs.declared.record.Record.TheVariants as stable
-use Rattle.tq_asks.specs.declared.ask.NodeAsk.{NodeAsk}
+use Rattle.tq_asks.specs.declared.ask.{NodeAsk.NodeAsk, WorkAsk.WorkAsk, NodeReply.NodeReply, Verdict.Verdict}
 use Rattle.tq_asks.specs.declared.ask.NodeAsk.TheVariants as asks
-use Rattle.tq_asks.specs.declared.ask.WorkAsk.{WorkAsk}
 use Rattle.tq_asks.specs.declared.ask.WorkAsk.TheVariants as work
-use Rattle.tq_node.specs.declared.change.NodeChange.{NodeChange}
-use Rattle.tq_node.specs.declared.change.NodeStep.{NodeStep}
+use Rattle.tq_node.specs.declared.change.{NodeChange.NodeChange, NodeStep.NodeStep}
 use Rattle.tq_node.specs.declared.change.NodeStep.TheVariants.{Nothing, Lock, Vote, Discard, Install, Release, Refresh, Unfinished, Copies, Crash, Return}
 use Rattle.tq_node.specs.Records.{Records, NodeState, records_after_crash, kept_lock, kept_records, open_vote, installs, newer_writes, refusal, work_refusal, work_reply}
-use Rattle.tq_shape.specs.Journal.{state_at}
 use Rattle.tq_node.specs.Node.{NodeView, with_last}
-use Rattle.tq_shape.specs.declared.answers.Plan.{Plan}
-use Rattle.tq_asks.specs.declared.ask.NodeReply.{NodeReply}
+use Rattle.tq_shape.specs.{Journal.state_at, declared.answers.Plan.Plan}
 use Rattle.tq_asks.specs.declared.ask.NodeReply.TheVariants as replies
-use Rattle.tq_asks.specs.declared.ask.Verdict.{Verdict}
 use Rattle.tq_node.specs.declared.change.NodeStep.TheVariants as steps
 
 -- ---- the stable records that a step writes, in order

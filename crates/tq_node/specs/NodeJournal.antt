@@ -1,22 +1,15 @@
 -- The journal of a server, the newest entry first: what is legal, and what its entries say.
 use Rattle.std.specs.Prelude.{◌≡◌, ℕ, true, false, List, [], Option, Some, None, ◌⊎◌}
 use Rattle.std.specs.FinMap as fin
-use Rattle.tq_shape.specs.Journal.{state_after, IsLegal, entry_at, Has}
-use Rattle.tq_shape.specs.declared.part.Entry.{Entry}
-use Rattle.tq_store.specs.Copies.{Files}
-use Rattle.tq_store.specs.declared.write.Write.{Write}
-use Rattle.tq_locks.specs.Locks.{Locks}
-use Rattle.tq_locks.specs.declared.mode.Mode.{Mode}
+use Rattle.tq_shape.specs.{Journal.{state_after, IsLegal, entry_at, Has}, declared.part.Entry.Entry}
+use Rattle.tq_store.specs.{Copies.Files, declared.write.Write.Write}
+use Rattle.tq_locks.specs.{Locks.Locks, declared.mode.Mode.Mode}
 use Rattle.tq_intents.specs.Kept.{Votes}
-use Rattle.tq_asks.specs.declared.ask.HeldLock.{HeldLock}
-use Rattle.tq_asks.specs.declared.ask.NodeAsk.{NodeAsk}
+use Rattle.tq_asks.specs.declared.ask.{HeldLock.HeldLock, NodeAsk.NodeAsk, NodeReply.NodeReply, Verdict.Verdict}
+use Rattle.tq_asks.specs.{declared.ask.WorkAsk.WorkAsk, Verdicts.cites_vote}
 use Rattle.tq_asks.specs.declared.ask.NodeAsk.TheVariants as asks
-use Rattle.tq_asks.specs.declared.ask.NodeReply.{NodeReply}
 use Rattle.tq_asks.specs.declared.ask.NodeReply.TheVariants as replies
-use Rattle.tq_asks.specs.declared.ask.Verdict.{Verdict}
-use Rattle.tq_asks.specs.declared.ask.WorkAsk.{WorkAsk}
 use Rattle.tq_asks.specs.declared.ask.WorkAsk.TheVariants as work
-use Rattle.tq_asks.specs.Verdicts.{cites_vote}
 use Rattle.tq_node.specs.Records.{NodeState, node_reply, node_after}
 
 abbrev pub NodeEntry : Type 0

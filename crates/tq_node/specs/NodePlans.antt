@@ -4,26 +4,20 @@ use Rattle.std.proofs.Common.{◌≡◌, ◌<◌, ◌+◌, suc, zero, length, sy
 use Rattle.std.proofs.lemmas.Bool.{eq-eqb, eqb-true, false≢true, leb-false, leb-true, ltb-false, ltb-true}
 use Rattle.std.proofs.lemmas.List.{append-nil, take-append-le, take_all}
 use Rattle.std.specs.FinMap as fin
-use Rattle.tq_store.specs.Copies.{installed_all, is_newer}
+use Rattle.tq_store.specs.{Copies.{installed_all, is_newer}, declared.write.Write.Write}
 use Rattle.tq_locks.specs.Locks.{blocker, locks_after_release}
-use Rattle.tq_store.specs.declared.write.Write.{Write}
-use Rattle.tq_intents.specs.Kept.{AreDead, is_dead, vote_records}
-use Rattle.tq_intents.specs.declared.record.KeptLock.{KeptLock}
-use Rattle.tq_intents.specs.declared.record.OpenVote.{OpenVote}
-use Rattle.tq_intents.specs.declared.record.Record.{Record}
+use Rattle.tq_intents.specs.{Kept.{AreDead, is_dead, vote_records}, declared.record.KeptLock.KeptLock}
+use Rattle.tq_intents.specs.declared.record.{OpenVote.OpenVote, Record.Record}
 use Rattle.tq_intents.specs.declared.record.Record.TheVariants as stable
-use Rattle.tq_asks.specs.declared.ask.NodeAsk.{NodeAsk}
+use Rattle.tq_asks.specs.declared.ask.{NodeAsk.NodeAsk, WorkAsk.WorkAsk, NodeRefusal.NodeRefusal}
 use Rattle.tq_asks.specs.declared.ask.NodeAsk.TheVariants as asks
-use Rattle.tq_asks.specs.declared.ask.WorkAsk.{WorkAsk}
 use Rattle.tq_asks.specs.declared.ask.WorkAsk.TheVariants as work
-use Rattle.tq_asks.specs.declared.ask.NodeRefusal.{NodeRefusal}
 use Rattle.tq_asks.specs.declared.ask.NodeRefusal.TheVariants as refusals
-use Rattle.tq_node.specs.declared.change.NodeStep.{NodeStep}
-use Rattle.tq_node.specs.declared.change.NodeStep.TheVariants as steps
+use Rattle.tq_node.specs.{declared.change.NodeStep.NodeStep, Node.{NodeView, server_after, opening_server}}
 use Rattle.tq_node.specs.Records.{Records, NodeState, has_vote, installs, refusal, open_vote, work_refusal, kept_records, records_after, work_after, work_writes, writes_of}
-use Rattle.tq_shape.specs.Journal.{state_at, refuse-none, refuse_for-none}
-use Rattle.tq_node.specs.Node.{NodeView, server_after, opening_server}
 use Rattle.tq_node.specs.NodeChanges.{cut_step, end_step, is_stop, work_step, state_left, step_of, node_change, node_changed, records_of, records_after_step, NodeFits, StepFits}
+use Rattle.tq_node.specs.declared.change.NodeStep.TheVariants as steps
+use Rattle.tq_shape.specs.Journal.{state_at, refuse-none, refuse_for-none}
 
 -- ---- a plan may be made
 

@@ -1,29 +1,19 @@
 -- What a server answers, and what it keeps.
 use Rattle.std.specs.Prelude.{ℕ, Bool, true, false, not, ◌&&◌, nat_le, List, [], ◌∷◌, ◌++◌, map, filter, length, take, Option, Some, None, if◌then◌else◌}
+use Rattle.std.specs.{List.find, Option.{option_map, option_map_or}, Ordering.is_lt}
 use Rattle.std.specs.FinMap as fin
-use Rattle.std.specs.List.{find}
-use Rattle.std.specs.Option.{option_map, option_map_or}
-use Rattle.std.specs.Ordering.{is_lt}
 use Rattle.tq_store.specs.Copies.{Files, name_cmp, copy_of, copies_after_install, installed_all, is_newer}
 use Rattle.tq_store.specs.declared.write.Write.{Write}
 use Rattle.tq_locks.specs.Locks.{Locks, LockKey, is_exclusive, blocker, locks_after_grant, held_of, holds_nothing, locks_after_release, only_stable, locks_after_keep as stabilised_locks}
-use Rattle.tq_locks.specs.declared.mode.Lock.{Lock}
-use Rattle.tq_locks.specs.declared.mode.Mode.{Mode}
+use Rattle.tq_locks.specs.declared.mode.{Lock.Lock, Mode.Mode}
 use Rattle.tq_intents.specs.Kept.{Votes, kept_copies, kept_votes, kept_locks, vote_at, vote_records}
-use Rattle.tq_intents.specs.declared.record.KeptLock.{KeptLock}
-use Rattle.tq_intents.specs.declared.record.OpenVote.{OpenVote}
-use Rattle.tq_intents.specs.declared.record.Record.{Record}
+use Rattle.tq_intents.specs.declared.record.{KeptLock.KeptLock, OpenVote.OpenVote, Record.Record}
 use Rattle.tq_intents.specs.declared.record.Record.TheVariants as stable
-use Rattle.tq_asks.specs.Verdicts.{cites_vote}
-use Rattle.tq_asks.specs.declared.ask.HeldLock.{HeldLock}
-use Rattle.tq_asks.specs.declared.ask.NodeAsk.{NodeAsk}
-use Rattle.tq_asks.specs.declared.ask.NodeAsk.TheVariants.{Work, Crash, Return, CrashIn}
-use Rattle.tq_asks.specs.declared.ask.NodeRefusal.{NodeRefusal}
+use Rattle.tq_asks.specs.{Verdicts.cites_vote, declared.ask.HeldLock.HeldLock, declared.ask.NodeAsk.NodeAsk}
+use Rattle.tq_asks.specs.declared.ask.{NodeAsk.TheVariants.{Work, Crash, Return, CrashIn}, NodeRefusal.NodeRefusal}
 use Rattle.tq_asks.specs.declared.ask.NodeRefusal.TheVariants.{Down, AlreadyUp, AlreadyDown, Held, Prepared, NotLocked, BadWrites, NotNewer, NothingHere}
-use Rattle.tq_asks.specs.declared.ask.NodeReply.{NodeReply}
+use Rattle.tq_asks.specs.declared.ask.{NodeReply.NodeReply, Verdict.Verdict, WorkAsk.WorkAsk}
 use Rattle.tq_asks.specs.declared.ask.NodeReply.TheVariants.{Granted, Yes, Installed, Discarded, Released, Copy, Refreshed, Crashed, Returned, Refused}
-use Rattle.tq_asks.specs.declared.ask.Verdict.{Verdict}
-use Rattle.tq_asks.specs.declared.ask.WorkAsk.{WorkAsk}
 use Rattle.tq_asks.specs.declared.ask.WorkAsk.TheVariants.{Lock as LockAsk, Prepare, Decide, Release, Peek, Refresh}
 use Rattle.tq_shape.specs.Journal.{refuse, refuse_for, state_at}
 

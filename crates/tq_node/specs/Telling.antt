@@ -2,24 +2,15 @@
 -- in the code's own words. What a server tells of an ask that it answers at once.
 use Rattle.std.specs.Prelude.{◌≡◌, ◌≤◌, ℕ, false, List, [], ◌∷◌, map, Bool, true, ◌&&◌, if◌then◌else◌}
 use Rattle.std.specs.List.{AllByRecursion, list_any}
-use Rattle.tq_store.specs.Copies.{Files, copy_of}
-use Rattle.tq_store.specs.Names.{same_name}
-use Rattle.tq_asks.specs.declared.ask.NodeAsk.{NodeAsk}
-use Rattle.tq_asks.specs.declared.ask.NodeAsk.TheVariants.{Work}
-use Rattle.tq_asks.specs.declared.ask.WorkAsk.TheVariants.{Refresh}
-use Rattle.tq_node.specs.declared.change.NodeStep.{NodeStep}
-use Rattle.tq_node.specs.declared.change.NodeStep.TheVariants as steps
-use Rattle.tq_node.specs.declared.telling.Raised.{Raised}
+use Rattle.tq_store.specs.{Copies.{Files, copy_of}, Names.same_name, declared.write.Write.Write}
+use Rattle.tq_asks.specs.declared.ask.{NodeAsk.NodeAsk, NodeAsk.TheVariants.Work, WorkAsk.TheVariants.Refresh}
+use Rattle.tq_asks.specs.declared.ask.{Verdict.Verdict, WorkAsk.WorkAsk}
+use Rattle.tq_node.specs.declared.{change.NodeStep.NodeStep, telling.Raised.Raised, telling.Telling.Telling}
 use Rattle.tq_node.specs.declared.telling.Raised.TheVariants.{Written, Asked}
-use Rattle.tq_store.specs.declared.write.Write.{Write}
-use Rattle.tq_locks.specs.Locks.{LockKey, is_exclusive}
-use Rattle.tq_locks.specs.declared.mode.Lock.{Lock}
-use Rattle.tq_asks.specs.declared.ask.Verdict.{Verdict}
-use Rattle.tq_asks.specs.declared.ask.WorkAsk.{WorkAsk}
-use Rattle.tq_asks.specs.declared.ask.WorkAsk.TheVariants as work
-use Rattle.tq_locks.specs.declared.mode.Mode.{Mode}
 use Rattle.tq_node.specs.Node.{NodeView, server_after, reply_to_ask}
-use Rattle.tq_node.specs.declared.telling.Telling.{Telling}
+use Rattle.tq_node.specs.declared.change.NodeStep.TheVariants as steps
+use Rattle.tq_locks.specs.{Locks.{LockKey, is_exclusive}, declared.mode.Lock.Lock, declared.mode.Mode.Mode}
+use Rattle.tq_asks.specs.declared.ask.WorkAsk.TheVariants as work
 
 -- the file that a refresh offers; none where the ask is no refresh
 abbrev pub offered_files : NodeAsk → List (List ℕ)

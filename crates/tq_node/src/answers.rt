@@ -6,8 +6,7 @@ use tq_shape::{Answers, Memory, Plan};
 
 impl Answers for Node {
     ghost use Rattle.std.specs.Prelude.{◌<◌, refl};
-    ghost use Rattle.tq_node.specs.Records.{node_reply};
-    ghost use Rattle.tq_node.specs.Node.{server_after, opening_server as opened};
+    ghost use Rattle.tq_node.specs.{Records.node_reply, Node.{server_after, opening_server as opened}};
     ghost use Rattle.tq_node.specs.NodeChanges.{node_change, node_changed, NodeFits};
     ghost use Rattle.tq_node.specs.NodePlans as plans;
 

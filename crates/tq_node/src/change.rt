@@ -1,8 +1,7 @@
 //! What an ask changes in a server, and what a stop leaves of it.
 
 ghost use Rattle.std.specs.Prelude.{◌≡◌, map, IfOk};
-ghost use Rattle.tq_node.specs.declared.change.NodeStep.{NodeStep};
-ghost use Rattle.tq_node.specs.NodeChanges.{cut_step, end_records, records_of};
+ghost use Rattle.tq_node.specs.{declared.change.NodeStep.NodeStep, NodeChanges.{cut_step, end_records, records_of}};
 
 use std::alloc::Global;
 use tq_intents::{NewerWrite, OpenVote, Record, SharedWrite, vote_records};

@@ -6,9 +6,8 @@ ghost use Rattle.tq_intents.specs.Kept.{AreDead};
 ghost use Rattle.tq_locks.specs.Locks.{blocker};
 ghost use Rattle.tq_node.specs.Records as spec;
 ghost use Rattle.tq_node.specs.Node as node;
-ghost use Rattle.tq_node.specs.Node.{HasOnlyKept, IsKept};
+ghost use Rattle.tq_node.specs.{Node.{HasOnlyKept, IsKept}, Cases.{IsOnlyStepOf, IsStepOf}};
 ghost use Rattle.tq_node.specs.NodeChanges.{server_at_stop, node_change, node_changed, server_in_vote, server_after_vote, Installs, Locks, NodeFits, StepsCopies, Takes, TakesOrNotes, planned_stop, work_replied, write_of, IsEndPlan, IsLockPlan, IsRefreshPlan, IsWorkPlan};
-ghost use Rattle.tq_node.specs.Cases.{IsOnlyStepOf, IsStepOf};
 
 mod refusals;
 mod telling;

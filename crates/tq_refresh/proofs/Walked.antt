@@ -1,26 +1,17 @@
 -- The asks of one job. A walk over the servers of a set: what one step leaves of it. The servers of a plan's jobs are
 -- of the tree of its sets, and a file whose stale servers are all down has no job.
 use Rattle.std.proofs.Common.{◌≡◌, ℕ, List, [], ◌∷◌, ◌++◌, Bool, true, false, not, ◌==◌, ◌&&◌, cond, Option, Some, None, Ok, Err, refl, sym, ◌∙◌, ap, subst, append_assoc, ◌+◌, ◌<◌, ◌≤◌, length, drop, get_or, map, filter, find}
-use Rattle.std.specs.Prelude.{OnOk, Result, is_err}
-use Rattle.tq_asks.specs.declared.ask.NodeAsk.{NodeAsk}
-use Rattle.tq_asks.specs.declared.ask.NodeAsk.TheVariants.{Work}
-use Rattle.tq_asks.specs.declared.ask.WorkAsk.TheVariants.{Peek}
+use Rattle.std.proofs.lemmas.{Grind.flat_map-append, List.{append-nil, drop_all, drop_more}, Option.none-some}
+use Rattle.std.proofs.lemmas.List.Elements.{All-map, All-tail, All-append, All-filter, All-head, All-nil}
+use Rattle.std.specs.{Prelude.{OnOk, Result, is_err}, List.{All, flat_map}, Option.option_map_or}
+use Rattle.tq_asks.specs.declared.ask.{NodeAsk.NodeAsk, NodeAsk.TheVariants.Work, WorkAsk.TheVariants.Peek}
 use Rattle.tq_asks.specs.declared.ask.NodeReply.{NodeReply}
-use Rattle.tq_txn.specs.Dialogue.{Told, Ends, Makes}
-use Rattle.tq_txn.specs.declared.asker.Exchange.{Exchange}
+use Rattle.tq_txn.specs.{Dialogue.{Told, Ends, Makes}, declared.asker.Exchange.Exchange}
 use Rattle.tq_txn.specs.declared.asker.Exchange.TheVariants as exchanges
 use Rattle.tq_txn_states.specs.declared.told.NodeTold.{NodeTold}
-use Rattle.tq_refresh.specs.declared.job.Job.{Job}
+use Rattle.tq_refresh.specs.declared.{job.Job.Job, file_jobs.FileJobs.FileJobs}
 use Rattle.tq_refresh.specs.Plan.{refresh_of, worker_asked, mend_asked, is_of_tree, refresh_asked, IsAnswered, Grows, IsPlanned, jobs_from, jobs_in, servers_in}
-use Rattle.std.specs.List.{All, flat_map}
-use Rattle.std.specs.Option.{option_map_or}
-use Rattle.std.proofs.lemmas.Grind.{flat_map-append}
-use Rattle.std.proofs.lemmas.List.{append-nil, drop_all, drop_more}
-use Rattle.std.proofs.lemmas.List.Elements.{All-map, All-tail, All-append, All-filter, All-head, All-nil}
-use Rattle.tq_shape.specs.Tree.{Server}
-use Rattle.tq_shape.specs.ServerSet.{servers_of_numbers, Servers, has_number}
-use Rattle.std.proofs.lemmas.Option.{none-some}
-use Rattle.tq_refresh.specs.declared.file_jobs.FileJobs.{FileJobs}
+use Rattle.tq_shape.specs.{Tree.Server, ServerSet.{servers_of_numbers, Servers, has_number}}
 
 -- the source did not take the ask
 pub refused : (job : Job) (old new : List Exchange) → IsAnswered job.source.number (Work (Peek job.file)) None old new → Grows (worker_asked job) old new

@@ -1,26 +1,16 @@
 -- The refresh plan: which copies a refresh mends, and from where; and what a refresh asks for one of them. What a job
 -- of the refresh asks, by a worker or by the shell: the source for its copy, and the server to take it.
 use Rattle.std.specs.Prelude.{◌≡◌, ℕ, ◌-◌, ◌^◌, List, [], map, find, filter, Option, Some, None, ◌==◌, ◌&&◌, Bool, true, false, cond, ◌∷◌, ◌++◌, Ok, Err}
-use Rattle.std.specs.List.{All, flat_map}
-use Rattle.tq_shape.specs.Tree.{Server}
-use Rattle.tq_shape.specs.ServerSet.{Servers, has_number, servers_of_numbers}
-use Rattle.tq_live.specs.Live.{Live, is_up}
-use Rattle.tq_live.specs.View.{upwards}
-use Rattle.tq_asks.specs.declared.ask.NodeAsk.{NodeAsk}
-use Rattle.tq_asks.specs.declared.ask.NodeAsk.TheVariants.{Work}
-use Rattle.tq_asks.specs.declared.ask.WorkAsk.TheVariants.{Peek, Refresh}
-use Rattle.tq_asks.specs.declared.ask.NodeReply.{NodeReply}
-use Rattle.tq_asks.specs.declared.ask.NodeReply.TheVariants.{Copy, Refreshed}
-use Rattle.tq_tables.specs.declared.file_row.FileRow.{FileRow}
-use Rattle.tq_tables.specs.Tables.{TablesView}
-use Rattle.tq_refresh.specs.declared.file_jobs.FileJobs.{FileJobs}
-use Rattle.tq_refresh.specs.declared.file_jobs.PlanByFile.{PlanByFile}
-use Rattle.tq_refresh.specs.declared.job.Job.{Job}
-use Rattle.std.specs.Option.{option_and_then, option_map_or}
-use Rattle.tq_txn.specs.Dialogue.{Told, Dialogue, Ends, AsksNode, Makes, Begins}
-use Rattle.tq_txn.specs.declared.asker.Exchange.{Exchange}
-use Rattle.tq_txn.specs.declared.asker.Exchange.TheVariants as exchanges
+use Rattle.std.specs.{List.{All, flat_map}, Option.{option_and_then, option_map_or}}
+use Rattle.tq_shape.specs.{Tree.Server, ServerSet.{Servers, has_number, servers_of_numbers}}
 use Rattle.tq_shape.specs.declared.fault.AskFault.{AskFault}
+use Rattle.tq_live.specs.{Live.{Live, is_up}, View.upwards}
+use Rattle.tq_asks.specs.declared.ask.{NodeAsk.NodeAsk, NodeAsk.TheVariants.Work, WorkAsk.TheVariants.{Peek, Refresh}}
+use Rattle.tq_asks.specs.declared.ask.{NodeReply.NodeReply, NodeReply.TheVariants.{Copy, Refreshed}}
+use Rattle.tq_tables.specs.{declared.file_row.FileRow.FileRow, Tables.TablesView}
+use Rattle.tq_refresh.specs.declared.{file_jobs.FileJobs.FileJobs, file_jobs.PlanByFile.PlanByFile, job.Job.Job}
+use Rattle.tq_txn.specs.{Dialogue.{Told, Dialogue, Ends, AsksNode, Makes, Begins}, declared.asker.Exchange.Exchange}
+use Rattle.tq_txn.specs.declared.asker.Exchange.TheVariants as exchanges
 use Rattle.tq_txn_states.specs.declared.told.NodeTold.{NodeTold}
 
 -- the servers of a set, upwards

@@ -1,7 +1,6 @@
 //! The plan of a refresh.
 
-ghost use Rattle.std.specs.Prelude.{◌≡◌, ◌++◌, [], IfOk, IfSome, OnOk, find};
-ghost use Rattle.std.specs.List.{All, flat_map};
+ghost use Rattle.std.specs.{Prelude.{◌≡◌, ◌++◌, [], IfOk, IfSome, OnOk, find}, List.{All, flat_map}};
 ghost use Rattle.std.specs.Option.{option_map_or};
 ghost use Rattle.tq_shape.specs.Tree.{IsServer};
 ghost use Rattle.tq_live.specs.Live.{Live, is_up};

@@ -3,8 +3,7 @@ use Rattle.std.specs.Prelude.{slice_get}
 use Rattle.std.proofs.Common.{◌≡◌, ℕ, zero, suc, ◌+◌, ◌≤◌, ◌<◌, List, [], ◌∷◌, ◌++◌, length, Some, None, refl, sym, ap, subst, ◌∙◌, arith, append_assoc, reverse}
 use Rattle.std.proofs.lemmas.Bool.{cond-true, cond-false, eq-eqb, ne_eqb}
 use Rattle.std.proofs.lemmas.List.{reverse-append, append-nil, length-append, length-reverse}
-use Rattle.tq_shape.specs.Journal.{state_from, IsLegalFrom, state_after, IsLegal, entry_at}
-use Rattle.tq_shape.specs.declared.part.Entry.{Entry}
+use Rattle.tq_shape.specs.{Journal.{state_from, IsLegalFrom, state_after, IsLegal, entry_at}, declared.part.Entry.Entry}
 
 pub reverse-push : {E : Type 0} (es : List E) (e : E) → reverse (es ++ e ∷ []) ≡ e ∷ reverse es
 reverse-push es e = reverse-append es (e ∷ [])

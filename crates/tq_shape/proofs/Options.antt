@@ -1,11 +1,8 @@
 -- Where there is a value, and where there is none. What a comparison says that ends in a tie.
-use Rattle.std.proofs.Common.{◌≡◌, false, not, Option, Some, None, is_some, refl, true, sym}
-use Rattle.std.proofs.lemmas.Bool.{true≢false}
-use Rattle.std.specs.Option.{option_map}
-use Rattle.tq_shape.specs.Journal.{or_else}
-use Rattle.std.specs.Ordering.{is_eq}
-use Rattle.std.specs.declared.cmp.Ordering.{Ordering}
+use Rattle.std.proofs.{Common.{◌≡◌, false, not, Option, Some, None, is_some, refl, true, sym}, lemmas.Bool.true≢false}
+use Rattle.std.specs.{Option.option_map, Ordering.is_eq, declared.cmp.Ordering.Ordering}
 use Rattle.std.specs.declared.cmp.Ordering.TheVariants.{Less, Equal, Greater}
+use Rattle.tq_shape.specs.Journal.{or_else}
 
 pub none_of : {A : Type 0} (o : Option A) → is_some o ≡ false → o ≡ None
 none_of None h = refl

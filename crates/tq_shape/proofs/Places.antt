@@ -2,8 +2,7 @@
 use Rattle.std.proofs.Common.{◌≡◌, ℕ, suc, ◌≤◌, ◌<◌, Bool, true, false, cond, eqb, List, [], ◌∷◌, ◌++◌, length, map, filter, Option, Some, None, refl, sym, ap, ◌∙◌, ◌⊎◌, inl, inr, arith, ◌+◌, subst, length-append}
 use Rattle.std.proofs.lemmas.Bool.{cases_Bool, cond-true, cond-false, eqb-true, eq-eqb, ne_eqb, and_parts, or_cases, or_left, or_right, false≢true, true≢false}
 use Rattle.std.specs.List.{list_any, list_all, find}
-use Rattle.tq_shape.specs.Journal.{entry_at, Has, entry, state_from, IsLegalFrom}
-use Rattle.tq_shape.specs.declared.part.Entry.{Entry}
+use Rattle.tq_shape.specs.{Journal.{entry_at, Has, entry, state_from, IsLegalFrom}, declared.part.Entry.Entry}
 use Rattle.tq_shape.specs.Agrees.{Agrees}
 
 pub Some-same : {A : Type 0} {x y : A} → Some x ≡ Some y → x ≡ y

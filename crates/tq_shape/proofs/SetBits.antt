@@ -1,14 +1,11 @@
 -- The numbers that are marked, as one mark changes. The marks of a word: its bits.
 use Rattle.std.proofs.Common.{◌≡◌, ℕ, ◌+◌, ◌<◌, zero, suc, Bool, true, false, List, [], ◌∷◌, ◌++◌, length, refl, sym, ap, ◌∙◌, arith, ◌≢◌, ◌-◌, ◌*◌, ◌/◌, ◌%◌, ◌^◌, min, inl, inr}
-use Rattle.std.specs.Prelude.{slice_set, slice_index_or, cond, nat_lt, ◌==◌, not, bit_and, bit_or}
-use Rattle.std.specs.List.{All}
-use Rattle.std.proofs.lemmas.Bool.{lt-ltb, le-ltb, eq-eqb, ne_eqb, cases_lt}
+use Rattle.std.proofs.lemmas.{Bool.{lt-ltb, le-ltb, eq-eqb, ne_eqb, cases_lt}, Nat.pow_below}
 use Rattle.std.proofs.lemmas.List.Elements.{All-cons, All-head, All-tail}
-use Rattle.tq_shape.specs.ServerSet.{Ascends, has_number, with_number, without_number, marked_numbers, marks_of, marks_of_word}
-use Rattle.std.specs.Int.{bit_at, bit_not, w64}
-use Rattle.std.specs.Int.Count.{count_trailing_zeros}
-use Rattle.std.proofs.lemmas.Nat.{pow_below}
 use Rattle.std.proofs.lemmas.Nat.Bits.{bit_at_lowest, bit_at-suc, bit_at-lt, bit_at_or, bit_at_and, bit_at_not, bit_at-pow_same, bit_at-pow_other, bit_at-trailing_zeros, and_pow}
+use Rattle.std.specs.{Prelude.{slice_set, slice_index_or, cond, nat_lt, ◌==◌, not, bit_and, bit_or}, List.All}
+use Rattle.std.specs.{Int.{bit_at, bit_not, w64}, Int.Count.count_trailing_zeros}
+use Rattle.tq_shape.specs.ServerSet.{Ascends, has_number, with_number, without_number, marked_numbers, marks_of, marks_of_word}
 
 -- none is marked twice
 not-marked : (low first : ℕ) (marks : List Bool) → low < first → has_number (marked_numbers first marks) low ≡ false

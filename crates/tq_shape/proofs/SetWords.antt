@@ -1,13 +1,10 @@
 -- A set's numbers as the places of the bits that are set in a list of words.
 use Rattle.std.proofs.Common.{◌≡◌, ℕ, ◌+◌, ◌-◌, ◌*◌, ◌/◌, ◌%◌, ◌^◌, ◌<◌, ◌≤◌, zero, suc, Bool, true, false, List, [], ◌∷◌, ◌++◌, length, replicate, refl, sym, ap, subst, ◌∙◌, arith}
-use mathlib.Core.Bool.{not-not}
-use Rattle.std.specs.Prelude.{slice_set, slice_index_or, not, ◌==◌, bit_and, bit_or}
-use Rattle.std.specs.List.{All}
-use Rattle.std.specs.Int.{bit_not, w64}
-use Rattle.std.specs.Int.Count.{count_trailing_zeros}
-use Rattle.std.proofs.Math.Nat.{zero-add}
+use Rattle.std.proofs.{Math.Nat.zero-add, lemmas.List.Elements.{All-nil, All-head, All-tail, All-filter}}
 use Rattle.std.proofs.lemmas.List.{length-append, length-set, length-replicate, get_or_append_left, get_or-append-add, nil_from_length, set-append_left, set-append_right}
-use Rattle.std.proofs.lemmas.List.Elements.{All-nil, All-head, All-tail, All-filter}
+use mathlib.Core.Bool.{not-not}
+use Rattle.std.specs.{Prelude.{slice_set, slice_index_or, not, ◌==◌, bit_and, bit_or}, List.All, Int.{bit_not, w64}}
+use Rattle.std.specs.Int.Count.{count_trailing_zeros}
 use Rattle.tq_shape.specs.ServerSet.{Ascends, AreLeft, AreWordsOf, has_number, marked_numbers, marks_in, marks_of_word, servers_of_numbers, numbers_left, numbers_of, with_number, without_number}
 use Rattle.tq_shape.specs.Tree.{IsServer, Server}
 use Rattle.tq_shape.proofs.SetBits.{has_number-marked, marked-with, marked-without, marked-append, marked-ascends, All-with_number, word-length, word-none, word-has, word-with, word-without, word-first}

@@ -2,8 +2,7 @@
 -- Which servers stand at or above another, seen from its parent.
 use Rattle.std.proofs.Common.{◌≡◌, ℕ, ◌+◌, ◌-◌, ◌*◌, ◌/◌, ◌^◌, ◌<◌, ◌≤◌, zero, suc, refl, inl, inr, arith, ap, ◌∙◌, true, false, ◌||◌, eqb, sym, ◌≢◌, Option, None, Some, IfSome, IfNone}
 use Rattle.std.proofs.lemmas.Bool.{cases_lt, lt-ltb, le-ltb, eqb-true, eq-eqb, or_cases, or_left, or_right, false_from_ne_true, cases_eq}
-use Rattle.std.proofs.lemmas.Nat.{pow_pos}
-use Rattle.std.proofs.Math.Nat.{pow-suc, pow-le-pow_right}
+use Rattle.std.proofs.{lemmas.Nat.pow_pos, Math.Nat.{pow-suc, pow-le-pow_right}}
 use Rattle.tq_shape.specs.Tree.{depth_within, depth_of, height_of, stands_in, ancestor, left_of, right_of, Server, IsAtOrAbove, IsSideTowards}
 
 depth_within-low : (steps number : ℕ) → number < 2 → depth_within (suc steps) number ≡ 0

@@ -1,7 +1,6 @@
 -- A part beside its journal.
 use Rattle.std.specs.Prelude.{◌≡◌, ◌≤◌, ℕ, ◌+◌, List, [], ◌∷◌, ◌++◌, length}
-use Rattle.tq_shape.specs.declared.part.Entry.{Entry}
-use Rattle.tq_shape.specs.Journal.{entry, state_from, IsLegalFrom}
+use Rattle.tq_shape.specs.{declared.part.Entry.Entry, Journal.{entry, state_from, IsLegalFrom}}
 use Rattle.tq_shape.specs.declared.journaled.Answered.{Answered}
 
 -- a part, its journal, the oldest entry first, and how many entries the journal may have

@@ -1,7 +1,6 @@
 -- A set of servers of one tree.
 use Rattle.std.specs.Prelude.{ℕ, ◌+◌, ◌*◌, ◌/◌, ◌%◌, ◌^◌, ◌<◌, ◌≤◌, ◌==◌, zero, suc, Bool, true, false, not, nat_eq, nat_lt, cond, List, [], ◌∷◌, ◌++◌, length, map, Option, Some, None}
-use Rattle.std.specs.List.{All, filter, list_any}
-use Rattle.std.specs.Cmp.Lexicographic.{pointwise}
+use Rattle.std.specs.{List.{All, filter, list_any}, Cmp.Lexicographic.pointwise}
 use Rattle.tq_shape.specs.Tree.{Server, IsServer}
 
 -- what callers see of a set: the levels of the tree, and the numbers of its servers, ascending, each once

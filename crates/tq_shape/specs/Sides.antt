@@ -1,6 +1,5 @@
 -- The two sides of a server.
-use Rattle.tq_shape.specs.Tree.{Server, server_numbered, left_of, right_of}
-use Rattle.tq_shape.specs.declared.server.Sides.{Sides}
+use Rattle.tq_shape.specs.{Tree.{Server, server_numbered, left_of, right_of}, declared.server.Sides.Sides}
 
 -- the sides of a server that is no leaf
 abbrev pub sides_of : Server → Sides

@@ -26,8 +26,7 @@ impl Model for Levels {
 }
 
 impl Levels {
-    ghost use Rattle.std.specs.Prelude.{◌≡◌, ◌+◌, ◌-◌, ◌^◌, ◌<◌, ◌≤◌};
-    ghost use Rattle.std.specs.Option.{SomeIff};
+    ghost use Rattle.std.specs.{Prelude.{◌≡◌, ◌+◌, ◌-◌, ◌^◌, ◌<◌, ◌≤◌}, Option.SomeIff};
 
     /// The levels of that count, if there is such a tree: `None` for 0 and above [`MOST_LEVELS`].
     pub fn new(count: u32) -> Option<Levels>

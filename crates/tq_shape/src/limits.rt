@@ -1,7 +1,6 @@
 //! The limits of a system.
 
-ghost use Rattle.std.specs.Prelude.{◌≡◌, ◌≤◌, ◌↔◌, IsTrue};
-ghost use Rattle.std.specs.Option.{SomeIff};
+ghost use Rattle.std.specs.{Prelude.{◌≡◌, ◌≤◌, ◌↔◌, IsTrue}, Option.SomeIff};
 ghost use Rattle.tq_shape.specs.Limits.{AreLimits, limits_of};
 
 use std::marker::Model;

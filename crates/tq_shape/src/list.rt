@@ -27,8 +27,7 @@ impl<T: Drop> Drop for Seq<T> {
 }
 
 impl<T> Model for Seq<T> {
-    ghost use Rattle.std.specs.Prelude.{List};
-    ghost use Rattle.std.specs.Coded.{coded_list};
+    ghost use Rattle.std.specs.{Prelude.List, Coded.coded_list};
 
     ghost Value = { List T };
 

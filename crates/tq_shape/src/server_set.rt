@@ -159,8 +159,7 @@ pub struct ServerSetIter<'a> {
 
 impl<'a> Model for ServerSetIter<'a> {
     ghost use Rattle.std.specs.Prelude.{List};
-    ghost use Rattle.tq_shape.specs.Tree.{Server};
-    ghost use Rattle.tq_shape.specs.ServerSet.{AreLeft, servers_of_numbers, numbers_left};
+    ghost use Rattle.tq_shape.specs.{Tree.Server, ServerSet.{AreLeft, servers_of_numbers, numbers_left}};
 
     ghost Value = { List Server };
 

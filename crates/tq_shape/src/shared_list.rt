@@ -23,10 +23,7 @@ impl<T: Drop> Drop for SharedSeq<T> {
 }
 
 impl<T> Model for SharedSeq<T> {
-    ghost use Rattle.std.specs.Prelude.{List, [], vec_items};
-    ghost use Rattle.std.specs.Coded.{coded_list};
-    ghost use Rattle.std.specs.Arc.{arc_value};
-    ghost use Rattle.std.specs.Option.{option_map_or};
+    ghost use Rattle.std.specs.{Prelude.{List, [], vec_items}, Coded.coded_list, Arc.arc_value, Option.option_map_or};
 
     ghost Value = { List T };
 

@@ -23,8 +23,7 @@ impl Drop for Words {
 }
 
 impl Model for Words {
-    ghost use Rattle.std.specs.Prelude.{ℕ, List, ◌∷◌};
-    ghost use Rattle.std.specs.Coded.{coded_list, coded_ℕ};
+    ghost use Rattle.std.specs.{Prelude.{ℕ, List, ◌∷◌}, Coded.{coded_list, coded_ℕ}};
 
     ghost Value = { List ℕ };
 

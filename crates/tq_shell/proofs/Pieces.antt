@@ -1,12 +1,10 @@
 -- A piece of bytes: up to its first line feed they go onto the line that goes on, and behind it the next line begins.
 use Rattle.std.proofs.Common.{◌≡◌, ℕ, zero, suc, ◌+◌, ◌-◌, ◌<◌, ◌≤◌, ◌==◌, true, false, cond, nat_le, List, [], ◌∷◌, ◌++◌, length, take, drop, slice_index, refl, sym, ap, subst, ◌∙◌, arith, append_assoc, length-append, drop-cons, inl, inr}
-use Rattle.std.proofs.lemmas.List.{append-nil, take_all, take-append-drop}
-use Rattle.std.proofs.lemmas.Bool.{cases_lt, ne_eqb}
+use Rattle.std.proofs.lemmas.{List.{append-nil, take_all, take-append-drop}, Bool.{cases_lt, ne_eqb}}
 use Rattle.std.proofs.Math.Seq.{take-append-add, take-append_seam}
 use Rattle.memchr.specs.Find.{Nowhere, Passes, is_byte}
-use Rattle.tq_syntax.specs.Line.{line_of}
+use Rattle.tq_syntax.specs.{Line.line_of, Word.without_return}
 use Rattle.tq_text.specs.Print.{Extends}
-use Rattle.tq_syntax.specs.Word.{without_return}
 use Rattle.tq_shell.specs.Stream.{Received, cut_line, with_piece, line_answer, received_byte, received_all, answers_to, taken_at_once}
 use Rattle.tq_shell.proofs.StreamLaws.{kept_more, kept_return, received_other, answered_other, received_all-append, answers_to-append}
 

@@ -2,31 +2,22 @@
 -- ends by a fault. What a rehearsal has written where no line is read. A bad line under its number. Good lines give
 -- few scripts. What is written where running scripts ends by a fault.
 use Rattle.std.proofs.Common.{◌≡◌, ℕ, List, Result, Ok, Err, sym, subst, Option, Some, None, inl, inr, refl, ◌≤◌, [], length, take, drop, ◌<◌, Bool, true, ◌&&◌, ◌∙◌}
-use Rattle.std.specs.Prelude.{IfOk, IfErr, nat_le, OnOk}
-use Rattle.std.specs.Result.{IsErrAnd}
-use Rattle.tq_devices.specs.declared.fault.RunFault.{RunFault}
-use Rattle.tq_devices.specs.declared.fault.RunFault.TheVariants.{Memory, Read, Write, TooLong}
-use Rattle.tq_shell.specs.Reading.{IsReadFault, IsSourceFault, IsReportText}
-use Rattle.tq_tables.specs.Journals.{JournalsView}
-use Rattle.tq_shell.specs.Audit.{IsFound, IsUpgraded, found_line, found_status, status_of, verdict_line, IsVerdict}
-use Rattle.std.proofs.lemmas.List.{take-append-drop}
-use Rattle.std.specs.Io.KnownBytes.{Appends}
+use Rattle.std.proofs.lemmas.{List.take-append-drop, Bool.{and_parts, leb-true}}
+use Rattle.std.specs.{Prelude.{IfOk, IfErr, nat_le, OnOk}, Result.IsErrAnd, Io.KnownBytes.Appends, List.list_all}
+use Rattle.tq_devices.specs.declared.fault.{RunFault.RunFault, RunFault.TheVariants.{Memory, Read, Write, TooLong}}
 use Rattle.tq_devices.specs.Devices.{IsWritten}
-use Rattle.tq_board.specs.Lines.{IsWrittenOut}
-use Rattle.tq_shell.specs.declared.audit_finding.AuditFinding.{AuditFinding}
-use Rattle.tq_shell.specs.declared.audit_finding.AuditFinding.TheVariants.{Unreadable}
-use Rattle.tq_shell.specs.declared.opened.Opened.{Opened}
-use Rattle.tq_shell.specs.declared.opened.Opened.TheVariants.{Refused}
+use Rattle.tq_shell.specs.{Reading.{IsReadFault, IsSourceFault, IsReportText}, declared.opened.Opened.Opened}
+use Rattle.tq_shell.specs.Audit.{IsFound, IsUpgraded, found_line, found_status, status_of, verdict_line, IsVerdict}
+use Rattle.tq_shell.specs.declared.audit_finding.{AuditFinding.AuditFinding, AuditFinding.TheVariants.Unreadable}
+use Rattle.tq_shell.specs.declared.{opened.Opened.TheVariants.Refused, outcome.Outcome.Outcome}
 use Rattle.tq_shell.specs.Rehearsal.{IsOpened, IsRefusedFile, IsRehearsalText}
-use Rattle.tq_syntax.specs.declared.client.ClientLine.{ClientLine}
+use Rattle.tq_shell.specs.Threads.{outcome_line, IsOutcome, IsThreadsText}
+use Rattle.tq_tables.specs.Journals.{JournalsView}
+use Rattle.tq_board.specs.Lines.{IsWrittenOut}
+use Rattle.tq_syntax.specs.declared.{client.ClientLine.ClientLine, fault.ScriptFault.ScriptFault}
 use Rattle.tq_syntax.specs.Scripts.{IsRead, are_good, clients_of, has_form, scripts_of}
-use Rattle.tq_syntax.specs.declared.fault.ScriptFault.{ScriptFault}
 use Rattle.tq_syntax.specs.declared.fault.ScriptFault.TheVariants.{Bad}
 use Rattle.tq_shape.specs.Journal.{is_empty}
-use Rattle.std.specs.List.{list_all}
-use Rattle.std.proofs.lemmas.Bool.{and_parts, leb-true}
-use Rattle.tq_shell.specs.declared.outcome.Outcome.{Outcome}
-use Rattle.tq_shell.specs.Threads.{outcome_line, IsOutcome, IsThreadsText}
 
 pub never_ok : {T : Type 0} (P : T → Type 0) (Q : RunFault → Type 0) (result : Result T RunFault) → IsErrAnd result Q → IfOk result P
 never_ok P Q (Ok all) is = absurd is

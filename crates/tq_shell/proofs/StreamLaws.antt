@@ -1,15 +1,11 @@
 -- The machine that receives pieces says the text of the lines.
 use Rattle.std.proofs.Common.{◌≡◌, ℕ, zero, suc, ◌+◌, ◌<◌, ◌≤◌, ◌==◌, Bool, true, false, cond, nat_lt, List, [], ◌∷◌, ◌++◌, length, take, refl, sym, ap, ◌∙◌, arith, append_assoc, inl, inr}
-use Rattle.std.proofs.lemmas.List.{append-nil, take_all, take-append-le, length-take-le}
-use Rattle.std.proofs.lemmas.Bool.{ne_eqb, cases_lt}
-use Rattle.std.specs.List.{onto_first}
+use Rattle.std.proofs.lemmas.{List.{append-nil, take_all, take-append-le, length-take-le}, Bool.{ne_eqb, cases_lt}}
 use Rattle.std.proofs.lemmas.List.Splits.{length-slice_split}
-use Rattle.tq_syntax.specs.declared.line.Line.{Line}
-use Rattle.tq_syntax.specs.declared.line.Line.TheVariants.{Bad}
-use Rattle.tq_syntax.specs.Line.{line_of}
+use Rattle.std.specs.List.{onto_first}
+use Rattle.tq_syntax.specs.{declared.line.Line.Line, declared.line.Line.TheVariants.Bad, Line.line_of}
+use Rattle.tq_syntax.specs.{Word.without_return, Scripts.{last_line, whole_parts, last_part, parts_of}}
 use Rattle.tq_interpreter.specs.Answer.{World, answer}
-use Rattle.tq_syntax.specs.Word.{without_return}
-use Rattle.tq_syntax.specs.Scripts.{last_line, whole_parts, last_part, parts_of}
 use Rattle.tq_shell.specs.Session.{lines_text, text_of, whole_text}
 use Rattle.tq_shell.specs.Stream.{Received, nothing_received, cut_line, with_piece, line_answer, received_byte, answer_to_byte, received_all, answers_to, answer_to_rest, answer_to_last}
 

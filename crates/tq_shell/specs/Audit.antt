@@ -1,19 +1,15 @@
 -- The line and the status that tell of what an audit found. What an audit finds in the bytes of a journal file. What
 -- an audit writes of the bytes that it has read. What an upgrade writes of the bytes that it has read.
-use Rattle.std.specs.Prelude.{ℕ, List, ◌++◌, codes, ◌≡◌, Some, length, Result, ◌⊎◌, Option, None}
-use Rattle.std.specs.Fmt.{decimal}
+use Rattle.std.specs.{Prelude.{ℕ, List, ◌++◌, codes, ◌≡◌, Some, length, Result, ◌⊎◌, Option, None}, Fmt.decimal}
 use Rattle.tq_text.specs.Print.{numbers_text, printed_line, part_text}
-use Rattle.tq_shell.specs.declared.audit_finding.AuditFinding.{AuditFinding}
+use Rattle.tq_shell.specs.{declared.audit_finding.AuditFinding.AuditFinding, Reading.IsReportText}
 use Rattle.tq_shell.specs.declared.audit_finding.AuditFinding.TheVariants.{Explained, Wrong, Stuck, Unreadable}
-use Rattle.serde_json.specs.Data.{Data}
+use Rattle.serde_json.specs.{Data.Data, Written.compact_text}
 use Rattle.tq_shape.specs.declared.part.Part.{Part}
 use Rattle.tq_tables.specs.Journals.{JournalsView}
 use Rattle.tq_json_read.specs.Frame.{IsJson, journals_of}
-use Rattle.tq_merge.specs.Order.{Explains, IsStuck}
-use Rattle.tq_merge.specs.Wrong.{IsWrong}
+use Rattle.tq_merge.specs.{Order.{Explains, IsStuck}, Wrong.IsWrong}
 use Rattle.tq_devices.specs.declared.fault.RunFault.{RunFault}
-use Rattle.tq_shell.specs.Reading.{IsReportText}
-use Rattle.serde_json.specs.Written.{compact_text}
 use Rattle.tq_board.specs.Form.{journals_value}
 
 abbrev pub verdict_text : AuditFinding → List ℕ

@@ -1,8 +1,7 @@
 -- How the reading of all bytes of a source fails. What a run over a journal file has written for the bytes that it has
 -- read, by the way that it ended. A line and a status tell of the bytes as the first argument says.
 use Rattle.std.specs.Prelude.{◌≡◌, ℕ, ◌+◌, ◌<◌, List, length, ◌≤◌, [], ◌++◌, Result, Ok, Err}
-use Rattle.tq_devices.specs.declared.fault.RunFault.{RunFault}
-use Rattle.tq_devices.specs.declared.fault.RunFault.TheVariants.{Memory, Read, Write, TooLong}
+use Rattle.tq_devices.specs.declared.fault.{RunFault.RunFault, RunFault.TheVariants.{Memory, Read, Write, TooLong}}
 
 -- the most bytes that client scripts have, and that a journal file has
 abbrev pub script_limit : ℕ

@@ -1,15 +1,12 @@
 -- What a rehearsal has written for the journal file and for the lines that it has read.
 use Rattle.std.specs.Prelude.{◌≡◌, ◌⊎◌, ◌≤◌, ◌<◌, ℕ, Bool, List, [], Result, IfOk, length}
-use Rattle.tq_devices.specs.declared.fault.RunFault.{RunFault}
-use Rattle.tq_devices.specs.Devices.{IsRunCount}
+use Rattle.tq_devices.specs.{declared.fault.RunFault.RunFault, Devices.IsRunCount}
 use Rattle.tq_shape.specs.declared.part.Part.{Part}
 use Rattle.tq_tables.specs.Journals.{JournalsView}
 use Rattle.tq_merge.specs.Order.{Explains}
 use Rattle.tq_interpreter.specs.Answer.{over}
-use Rattle.tq_shell.specs.declared.opened.Opened.{Opened}
-use Rattle.tq_shell.specs.declared.opened.Opened.TheVariants.{Ready, Refused}
-use Rattle.tq_shell.specs.Audit.{IsAudited, status_of, IsFileOf, IsVerdict}
-use Rattle.tq_shell.specs.Reading.{file_limit, IsReportText}
+use Rattle.tq_shell.specs.declared.opened.{Opened.Opened, Opened.TheVariants.{Ready, Refused}}
+use Rattle.tq_shell.specs.{Audit.{IsAudited, status_of, IsFileOf, IsVerdict}, Reading.{file_limit, IsReportText}}
 use Rattle.tq_shell.specs.Session.{IsRunText}
 
 -- the bytes are a file of these journals, and an order explains them

@@ -1,13 +1,11 @@
 -- The text that answers the lines of bytes. What a run has written for the bytes that it has read, by the way that it
 -- ended.
 use Rattle.std.specs.Prelude.{ℕ, Bool, cond, List, [], ◌∷◌, ◌++◌, ◌≡◌, ◌+◌, ◌<◌, ◌≤◌, Option, Result, Ok, Err, length, take}
-use Rattle.tq_syntax.specs.Line.{line_of}
-use Rattle.tq_syntax.specs.Scripts.{lines_of, whole_lines}
-use Rattle.tq_interpreter.specs.Answer.{World, answer}
 use Rattle.std.specs.Io.KnownBytes.{Appends}
+use Rattle.tq_syntax.specs.{Line.line_of, Scripts.{lines_of, whole_lines}}
+use Rattle.tq_interpreter.specs.Answer.{World, answer}
 use Rattle.tq_shell.specs.Stream.{Received, nothing_received, received_all, answers_to}
-use Rattle.tq_devices.specs.declared.fault.RunFault.{RunFault}
-use Rattle.tq_devices.specs.declared.fault.RunFault.TheVariants.{Memory, Read, Write, TooLong}
+use Rattle.tq_devices.specs.declared.fault.{RunFault.RunFault, RunFault.TheVariants.{Memory, Read, Write, TooLong}}
 
 -- the answers to lines, one after another
 abbrev pub lines_text : World → List (List ℕ) → List ℕ

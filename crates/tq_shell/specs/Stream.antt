@@ -1,11 +1,9 @@
 -- Bytes that come in pieces: a machine that goes from byte to byte and keeps one line.
-use Rattle.std.specs.Prelude.{◌≡◌, ℕ, ◌+◌, ◌==◌, ◌&&◌, nat_le, cond, List, [], ◌∷◌, ◌++◌, take, length}
-use Rattle.std.specs.Global.{Vec}
+use Rattle.std.specs.{Prelude.{◌≡◌, ℕ, ◌+◌, ◌==◌, ◌&&◌, nat_le, cond, List, [], ◌∷◌, ◌++◌, take, length}, Global.Vec}
 use Rattle.tq_text.specs.Print.{Appends}
 use Rattle.tq_shell.specs.declared.receiver.TheConstants.{KEPT, FLUSH_AT}
-use Rattle.tq_syntax.specs.Line.{line_of}
+use Rattle.tq_syntax.specs.{Line.line_of, Word.without_return}
 use Rattle.tq_interpreter.specs.Answer.{World, Answer, answer}
-use Rattle.tq_syntax.specs.Word.{without_return}
 
 -- what was received: the world after the whole lines, and what is kept of the line that goes on
 pub record Received : Type 0 where

@@ -1,27 +1,19 @@
 -- The line and the status that tell what came of client scripts. What came of the text of client scripts that were run
 -- in threads. What `threads` has written for the bytes that it has read, by the way that it ended.
-use Rattle.std.specs.Prelude.{ℕ, List, [], ◌∷◌, ◌++◌, codes, ◌≡◌, true, map, Err, Result, Ok}
-use Rattle.std.specs.Fmt.{decimal}
+use Rattle.std.specs.{Prelude.{ℕ, List, [], ◌∷◌, ◌++◌, codes, ◌≡◌, true, map, Err, Result, Ok}, Fmt.decimal}
 use Rattle.serde_json.specs.Written.{compact_text}
 use Rattle.tq_text.specs.Print.{printed_line}
 use Rattle.tq_board.specs.Form.{journals_value}
-use Rattle.tq_shell.specs.declared.outcome.Outcome.{Outcome}
-use Rattle.tq_shell.specs.declared.outcome.Outcome.TheVariants.{Ran, Unclosed, BadScript}
+use Rattle.tq_shell.specs.declared.outcome.{Outcome.Outcome, Outcome.TheVariants.{Ran, Unclosed, BadScript}}
 use Rattle.tq_shape.specs.declared.part.Part.{Part}
 use Rattle.tq_interpreter.specs.Recorded.{full_limits}
-use Rattle.tq_syntax.specs.declared.script.Line.{Line}
-use Rattle.tq_syntax.specs.Scripts.{are_good, scripts_of, said_lines, IsRead}
+use Rattle.tq_syntax.specs.{declared.script.Line.Line, Scripts.{are_good, scripts_of, said_lines, IsRead}}
 use Rattle.tq_syntax.specs.declared.fault.ScriptFault.TheVariants.{Bad}
 use Rattle.tq_tables.specs.Journals.{JournalsView}
-use Rattle.tq_merge.specs.Order.{Explains}
-use Rattle.tq_merge.specs.Told.{AreKept}
-use Rattle.tq_merge.specs.declared.fault.CloseFault.{CloseFault}
+use Rattle.tq_merge.specs.{Order.Explains, Told.AreKept, declared.fault.CloseFault.CloseFault}
 use Rattle.tq_merge.specs.declared.fault.CloseFault.TheVariants as faults
-use Rattle.tq_cluster.specs.Told.{CallerView}
-use Rattle.tq_cluster.specs.Clients.{AllRan}
-use Rattle.tq_cluster.specs.Cluster.{IsClosedBy}
-use Rattle.tq_devices.specs.declared.fault.RunFault.{RunFault}
-use Rattle.tq_devices.specs.declared.fault.RunFault.TheVariants.{Memory, Read, Write, TooLong}
+use Rattle.tq_cluster.specs.{Told.CallerView, Clients.AllRan, Cluster.IsClosedBy}
+use Rattle.tq_devices.specs.declared.fault.{RunFault.RunFault, RunFault.TheVariants.{Memory, Read, Write, TooLong}}
 
 abbrev pub outcome_line : Outcome → List ℕ
 outcome_line (Ran journals) = printed_line (compact_text (journals_value journals))

@@ -1,7 +1,6 @@
 //! The audit of a journal file: whether an order explains its journals.
 
-ghost use Rattle.std.specs.Prelude.{◌≡◌, ◌-◌, ◌^◌, ◌<◌, ℕ, List, IsTrue, OnOk, IfOk};
-ghost use Rattle.std.specs.Io.KnownBytes.{Appends};
+ghost use Rattle.std.specs.{Prelude.{◌≡◌, ◌-◌, ◌^◌, ◌<◌, ℕ, List, IsTrue, OnOk, IfOk}, Io.KnownBytes.Appends};
 ghost use Rattle.tq_devices.specs.Devices.{IsRunCount};
 ghost use Rattle.tq_shell.specs.Audit.{IsAuditText, IsVerdict};
 

@@ -22,8 +22,7 @@ pub(crate) struct Receiver {
 
 impl Model for Receiver {
     ghost use Rattle.std.specs.Prelude.{◌≤◌, length};
-    ghost use Rattle.tq_shell.specs.Stream.{Received};
-    ghost use Rattle.tq_shell.specs.declared.receiver.TheConstants.{KEPT};
+    ghost use Rattle.tq_shell.specs.{Stream.Received, declared.receiver.TheConstants.KEPT};
 
     ghost Value = { Received };
 

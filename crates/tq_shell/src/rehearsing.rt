@@ -1,6 +1,5 @@
 //! Lines that are answered over the journals of a file.
-ghost use Rattle.std.specs.Prelude.{◌≡◌, ◌-◌, ◌^◌, ◌<◌, ℕ, List, IfOk, IsTrue, OnOk};
-ghost use Rattle.std.specs.Io.KnownBytes.{Appends};
+ghost use Rattle.std.specs.{Prelude.{◌≡◌, ◌-◌, ◌^◌, ◌<◌, ℕ, List, IfOk, IsTrue, OnOk}, Io.KnownBytes.Appends};
 ghost use Rattle.tq_shell.specs.Rehearsal.{IsRehearsalCount, IsRehearsalText};
 
 use crate::opened::{Opened, open_service};

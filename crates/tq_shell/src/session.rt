@@ -1,11 +1,9 @@
 //! The session of a shell: lines in, answers out.
 
-ghost use Rattle.std.specs.Prelude.{◌≡◌, ◌+◌, ◌-◌, ◌^◌, ◌<◌, ℕ, List, IsTrue, OnOk};
-ghost use Rattle.std.specs.Io.KnownBytes.{Appends};
+ghost use Rattle.std.specs.{Prelude.{◌≡◌, ◌+◌, ◌-◌, ◌^◌, ◌<◌, ℕ, List, IsTrue, OnOk}, Io.KnownBytes.Appends};
 ghost use Rattle.tq_devices.specs.Devices.{IsRunCount};
 ghost use Rattle.tq_interpreter.specs.Answer.{opening};
-ghost use Rattle.tq_shell.specs.Session.{IsRunText};
-ghost use Rattle.tq_shell.specs.Stream.{nothing_received};
+ghost use Rattle.tq_shell.specs.{Session.IsRunText, Stream.nothing_received};
 
 use crate::receiver::Receiver;
 use std::alloc::Global;

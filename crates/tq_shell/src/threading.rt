@@ -3,8 +3,7 @@
 ghost use Rattle.std.specs.Prelude.{◌≡◌, ◌-◌, ◌^◌, ◌<◌, ◌≤◌, ◌⊎◌, ℕ, List, IsTrue, OnOk, length};
 ghost use Rattle.std.specs.Io.KnownBytes.{Appends};
 ghost use Rattle.tq_devices.specs.Devices.{IsRunCount};
-ghost use Rattle.tq_shell.specs.Reading.{script_limit};
-ghost use Rattle.tq_shell.specs.Threads.{IsThreadsText};
+ghost use Rattle.tq_shell.specs.{Reading.script_limit, Threads.IsThreadsText};
 
 use crate::reading::read_within;
 use crate::running::run_text;

@@ -1,7 +1,6 @@
 //! The upgrade of a journal file.
 
-ghost use Rattle.std.specs.Prelude.{◌≡◌, ◌-◌, ◌^◌, ◌<◌, ℕ, List, IfOk, IsTrue, OnOk};
-ghost use Rattle.std.specs.Io.KnownBytes.{Appends};
+ghost use Rattle.std.specs.{Prelude.{◌≡◌, ◌-◌, ◌^◌, ◌<◌, ℕ, List, IfOk, IsTrue, OnOk}, Io.KnownBytes.Appends};
 ghost use Rattle.tq_devices.specs.Devices.{IsRunCount};
 ghost use Rattle.tq_board.specs.Lines.{IsWrittenOut};
 ghost use Rattle.tq_shell.specs.Audit.{verdict_line, IsFound, IsUpgradeText, found_line, found_status};

@@ -1,20 +1,14 @@
 -- A map's entries, as the finite map that contracts see. What the copies are after one comes, file by file. The copies
 -- where one was put in, and the one that it replaced was looked at, and put back where it is no older.
 use Rattle.std.proofs.Common.{◌≡◌, ℕ, cond, List, [], ◌∷◌, Some, nat_eq, ◌<◌, ◌≤◌, arith, refl, ap, sym, subst, ◌∙◌, ◌≢◌, Bool, true, false, Option, None, nat_lt}
-use Rattle.std.specs.Cmp.{eq_by_cmp_equiv}
+use Rattle.std.proofs.lemmas.{Map.lookup-set_value, Bool.Decides.nat_tests, Map.Steps.set_value_same}
+use Rattle.std.specs.{Cmp.eq_by_cmp_equiv, Ordering.eq_by_cmp, Map.{lookup, set_value}, Option.IsSome}
 use Rattle.std.specs.Cmp.Lexicographic.{pointwise, nat_list_cmp_total, nat_list_eq_equiv, texts_ties}
 use Rattle.std.specs.FinMap.{find, get, insert, from_entries, get-from_entries, get-insert, same_map, nat_cmp-IsAntisymmetric, slice_cmp-IsAntisymmetric}
-use Rattle.std.specs.Ordering.{eq_by_cmp}
-use Rattle.std.specs.Map.{lookup, set_value}
-use Rattle.std.specs.Option.{IsSome}
-use Rattle.std.proofs.lemmas.Map.{lookup-set_value}
 use Rattle.tq_store.specs.Copies.{name_cmp, Files, copy_of, copies_after_install, Installs, OnlyRises, copy_at, copy_in, installed_all}
-use Rattle.tq_store.specs.declared.copies.FileCopy.{FileCopy}
-use Rattle.std.proofs.lemmas.Bool.Decides.{nat_tests}
+use Rattle.tq_store.specs.declared.{copies.FileCopy.FileCopy, write.Write.Write}
 use Rattle.std.specs.FinMap as fin
 use Rattle.tq_shape.proofs.Options.{is_eq-Equal}
-use Rattle.tq_store.specs.declared.write.Write.{Write}
-use Rattle.std.proofs.lemmas.Map.Steps.{set_value_same}
 
 module _ {X : Type 0} where
   find_name : (es : List (List ℕ × X)) (q : List ℕ) → find name_cmp q es ≡ lookup (pointwise nat_eq q) es

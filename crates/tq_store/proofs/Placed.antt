@@ -1,24 +1,17 @@
 -- What the two columns of an `Ordered` are to its value. The place of a key in a list of keys, and how an ordered map
 -- keeps it.
 use Rattle.std.proofs.Common.{◌≡◌, ◌-◌, ◌<◌, ℕ, Bool, List, swap_remove, arith, subst, length, min, sym, ap, ◌∙◌, Vec, zip, ◌≢◌, Result, Ok, Err, OnErr, IsOk, drop, take-append-drop, ◌+◌, ◌≤◌, true, false, cond, [], ◌∷◌, ◌++◌, get_or, take, Option, Some, None, position, nat_lt, refl, true≢false, is_some, unwrap_or, inl, inr, lt-ltb, le-ltb, ltb-true, ltb-false, take_all, length-take-le, get_or-take, is_eq, length-append}
-use Rattle.std.specs.Prelude.{⊤}
-use Rattle.std.specs.Map.{keys_of, values_of, lookup}
+use Rattle.std.proofs.lemmas.{Bool.Decides.eqb_tells, Grind.get_or-set_at, Map.Keys.apart_from_distinct}
+use Rattle.std.proofs.lemmas.List.{get_or_default, take_more, get_or_push, get_or_append_left, get_or-set_other, take-append-le}
+use Rattle.std.proofs.{lemmas.List.Sums.{position_or_len_is, fails_before_first, passes_at_first}, Math.Decide.dec_lt}
+use Rattle.std.specs.{Prelude.⊤, Map.{keys_of, values_of, lookup}, Cmp.IsEquivalence, declared.cmp.Ordering.Ordering}
+use Rattle.std.specs.{List.{IsDistinct, position_or_len}, BTreeMap.{BTreeMap, is_at}}
 use Rattle.indexmap.specs.IndexMap.{IndexMap, spare}
 use Rattle.std_collections.proofs.Zip.{length-zip_even, keys_of-zip, values_of-zip, zip-swap_remove}
 use Rattle.std_collections.proofs.HashLookup.{distinct_swap_remove, length-swap_remove}
-use Rattle.std.specs.Cmp.{IsEquivalence}
-use Rattle.std.specs.List.{IsDistinct, position_or_len}
 use Rattle.tq_store.specs.Bounded.{with_spare, ArePlaced}
 use Rattle.indexmap.proofs.MapLemmas.{distinct_from_apart, some_index}
-use Rattle.std.proofs.lemmas.Bool.Decides.{eqb_tells}
-use Rattle.std.proofs.lemmas.Grind.{get_or-set_at}
-use Rattle.std.proofs.lemmas.List.{get_or_default, take_more, get_or_push, get_or_append_left, get_or-set_other, take-append-le}
-use Rattle.std.proofs.lemmas.List.Sums.{position_or_len_is, fails_before_first, passes_at_first}
-use Rattle.std.proofs.lemmas.Map.Keys.{apart_from_distinct}
-use Rattle.std.proofs.Math.Decide.{dec_lt}
-use Rattle.std.specs.declared.cmp.Ordering.{Ordering}
 use Rattle.std.specs.BTreeMap as ordered
-use Rattle.std.specs.BTreeMap.{BTreeMap, is_at}
 
 module _ {K V Z : Type 0} where
   pub record Opened (ks : Vec K Z) (vs : Vec V Z) (m : IndexMap K V ⊤) : Type 0 where

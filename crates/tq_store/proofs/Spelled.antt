@@ -1,11 +1,8 @@
 -- Bytes compare as the numbers that they spell, the first byte counting most; so names compare by words.
 use Rattle.std.proofs.Common.{◌≡◌, ◌≢◌, ℕ, zero, suc, ◌+◌, ◌*◌, ◌^◌, ◌<◌, ◌≤◌, List, [], length, drop, Bool, true, false, ◌&&◌, ◌==◌, refl, ap, sym, ◌∙◌, arith, IsTrue, nat_eq, slice_index}
-use Rattle.std.proofs.Math.ListN.{drop_of_length-le}
-use Rattle.std.proofs.Math.Nat.{mul-le-mul_right, suc-mul, pow-suc}
-use Rattle.std.proofs.Math.Seq.{drop-cons}
-use Rattle.std.specs.Cmp.{nat_cmp_is, ranks, tied_then, unsigned_tied}
+use Rattle.std.proofs.Math.{ListN.drop_of_length-le, Nat.{mul-le-mul_right, suc-mul, pow-suc}, Seq.drop-cons}
+use Rattle.std.specs.{Cmp.{nat_cmp_is, ranks, tied_then, unsigned_tied}, declared.cmp.Ordering.Ordering}
 use Rattle.std.specs.Cmp.Lexicographic.{pointwise, slice_cmp, texts_ties}
-use Rattle.std.specs.declared.cmp.Ordering.{Ordering}
 use Rattle.std.specs.declared.cmp.Ordering.TheVariants.{Less, Equal, Greater}
 use Rattle.std.specs.Ordering.{MatchOrdering, nat_cmp, ordering_then, is_eq}
 use Rattle.tq_store.specs.Names.{is_file_name, padded_name, word_at}

@@ -1,13 +1,10 @@
 -- What contracts see of a map whose look-ups are bounded: its entries in their order, and how many more fit with no memory
 -- asked for. It is the record that they see of an `IndexMap`, with no hasher, so the words of that one serve.
 use Rattle.std.specs.Prelude.{◌≡◌, ◌≤◌, ◌+◌, ◌-◌, ℕ, Bool, false, if◌then◌else◌, List, [], ◌∷◌, ◌++◌, Option, Some, ⊤, is_some, length, position, slice_get, take}
-use Rattle.std.specs.Coded.{Coded}
+use Rattle.std.specs.{Coded.Coded, declared.cmp.Ordering.Ordering, BTreeMap.BTreeMap}
 use base.Stored.{coded_unit}
-use Rattle.std.specs.declared.cmp.Ordering.{Ordering}
 use Rattle.std.specs.BTreeMap as ordered
-use Rattle.std.specs.BTreeMap.{BTreeMap}
-use Rattle.indexmap.specs.IndexMap.{IndexMap, index_map_len, insert_entry, spare}
-use Rattle.indexmap.specs.Layout.{hash_map, hash_map_code}
+use Rattle.indexmap.specs.{IndexMap.{IndexMap, index_map_len, insert_entry, spare}, Layout.{hash_map, hash_map_code}}
 
 -- a map as one value of a code, from those of its keys and values
 abbrev pub bounded_code : {K V : Type 0} → Coded K → Coded V → Coded (IndexMap K V ⊤)

@@ -1,12 +1,9 @@
 -- The copies of a server: a finite map from file names to a version and a content. No copy of version 0 is kept.
 use Rattle.std.specs.Prelude.{◌≡◌, ◌≢◌, ◌<◌, ◌≤◌, ℕ, Bool, List, ◌∷◌, Option, Some, None, if◌then◌else◌, nat_lt, [], refl}
-use Rattle.std.specs.Coded.{Coded, code_by, coded×, coded_list, coded_ℕ}
-use Rattle.std.specs.Ordering.{nat_cmp}
-use Rattle.std.specs.declared.cmp.Ordering.{Ordering}
-use Rattle.std.specs.Cmp.Lexicographic.{slice_cmp}
+use Rattle.std.specs.{Coded.{Coded, code_by, coded×, coded_list, coded_ℕ}, Ordering.nat_cmp}
+use Rattle.std.specs.{declared.cmp.Ordering.Ordering, Cmp.Lexicographic.slice_cmp}
 use Rattle.std.specs.FinMap as map
-use Rattle.tq_store.specs.declared.copies.FileCopy.{FileCopy}
-use Rattle.tq_store.specs.declared.write.Write.{Write}
+use Rattle.tq_store.specs.declared.{copies.FileCopy.FileCopy, write.Write.Write}
 
 -- file names in their order, by their bytes
 abbrev pub name_cmp : List ℕ → List ℕ → Ordering

@@ -1,8 +1,6 @@
 -- What a map whose look-ups are bounded ends as, once a `&mut` into it has ended.
-use Rattle.std.specs.Prelude.{◌≡◌, ℕ, Bool, Option, ⊤}
-use Rattle.std.specs.Borrow.{Fml, RattleType, MutBor, Lends, LendsIf, LendsSo}
-use Rattle.std.specs.BTreeMap.Lent.{OrdMembers}
-use Rattle.std.specs.HashMap.Lent.{HashMembers}
+use Rattle.std.specs.{Prelude.{◌≡◌, ℕ, Bool, Option, ⊤}, Borrow.{Fml, RattleType, MutBor, Lends, LendsIf, LendsSo}}
+use Rattle.std.specs.{BTreeMap.Lent.OrdMembers, HashMap.Lent.HashMembers}
 use Rattle.indexmap.specs.IndexMap.{IndexMap, WritesThrough, with_value_at}
 use Rattle.tq_store.specs.contracts.ordered.Ordered as ordered
 use Rattle.tq_store.specs.contracts.bounded.BoundedIndexMap as bounded

@@ -1,12 +1,8 @@
 -- Names of files.
 use Rattle.std.specs.Prelude.{ℕ, ◌+◌, ◌-◌, Bool, false, ◌||◌, ◌&&◌, ◌==◌, List, [], ◌∷◌, ◌++◌, length, replicate, nat_le, slice_get, slice_index, if◌then◌else◌}
-use Rattle.std.specs.List.{list_all, before_first}
-use Rattle.std.specs.Option.{option_map_or}
-use Rattle.std.specs.Char.{is_ascii_lowercase, is_ascii_digit}
-use Rattle.std.specs.Int.{w64, from_be_bytes}
-use Rattle.std.specs.Cmp.Lexicographic.{pointwise}
+use Rattle.std.specs.{List.{list_all, before_first}, Option.option_map_or, Char.{is_ascii_lowercase, is_ascii_digit}}
+use Rattle.std.specs.{Int.{w64, from_be_bytes}, Cmp.Lexicographic.pointwise, Hash.HashWrites}
 use Rattle.std.specs.Hash as fed
-use Rattle.std.specs.Hash.{HashWrites}
 
 -- a byte that may stand in a file name: a letter, a digit, a dot, a low line or a dash
 abbrev pub is_name_byte : ℕ → Bool

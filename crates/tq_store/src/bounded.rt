@@ -1,8 +1,6 @@
 //! A map whose look-ups are bounded, whoever chose the keys.
 ghost use Rattle.std.specs.Prelude.{◌≡◌, ◌+◌, ◌-◌, ◌<◌, ◌≤◌, ◌^◌, IfErr, IfNone, IfOk, IfSome, IsOk, IsTrue, ◌↔◌, None, OnErr, OnOk, Some, is_some, slice_get};
-ghost use Rattle.std.specs.Borrow.{sem};
-ghost use Rattle.std.specs.Map.Iter.{deref_pair};
-ghost use Rattle.std.specs.Option.{option_copied, option_copied_mut, option_map};
+ghost use Rattle.std.specs.{Borrow.sem, Map.Iter.deref_pair, Option.{option_copied, option_copied_mut, option_map}};
 ghost use Rattle.indexmap.specs.IndexMap.{get, index_map_len, index_of, spare, swap_remove_entry, values, IsClone, IsEmpty, IsUnchanged, IsUnique, Updates};
 ghost use Rattle.tq_store.specs.Bounded.{HasEntryAt, HasOneLessIfThere, HasOneMoreIfNew, HasPut};
 ghost use Rattle.tq_store.specs.Lends.{lends_at, lends_get};

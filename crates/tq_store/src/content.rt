@@ -26,9 +26,7 @@ impl Drop for Content {
 }
 
 impl Model for Content {
-    ghost use Rattle.std.specs.Prelude.{◌≤◌, List, ℕ, [], length};
-    ghost use Rattle.std.specs.Coded.{coded_list, coded_ℕ};
-    ghost use Rattle.std.specs.Arc.{arc_slice_items};
+    ghost use Rattle.std.specs.{Prelude.{◌≤◌, List, ℕ, [], length}, Coded.{coded_list, coded_ℕ}, Arc.arc_slice_items};
     ghost use Rattle.std.specs.Option.{option_map_or};
 
     ghost Value = { List ℕ };
@@ -107,8 +105,7 @@ impl Clone for Content {
 }
 
 impl PartialEq for Content {
-    ghost use Rattle.std.specs.Prelude.{nat_eq};
-    ghost use Rattle.std.specs.Cmp.Lexicographic.{pointwise};
+    ghost use Rattle.std.specs.{Prelude.nat_eq, Cmp.Lexicographic.pointwise};
     ghost use Rattle.std.proofs.Common.{rules};
 
     ghost eq = { pointwise nat_eq };

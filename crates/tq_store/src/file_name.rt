@@ -1,11 +1,10 @@
 //! The names of files.
 
 ghost use Rattle.std.specs.Prelude.{◌≡◌, ◌↔◌, ◌+◌, ◌≤◌, ◌==◌, IfSome, IsSome, IsTrue, length, nat_eq};
-ghost use Rattle.std.specs.Ordering.{nat_cmp};
-ghost use Rattle.std.specs.Cmp.Lexicographic.{pointwise, slice_cmp};
+ghost use Rattle.std.specs.{Ordering.nat_cmp, Cmp.Lexicographic.{pointwise, slice_cmp}};
+ghost use Rattle.std.specs.List.{list_all, position_or_len};
 ghost use Rattle.tq_store.specs.Names.{is_file_name, padded_name, word_at};
 ghost use Rattle.tq_store.specs.Names as names;
-ghost use Rattle.std.specs.List.{list_all, position_or_len};
 
 use std::alloc::AllocError;
 use std::cmp::Ordering;
@@ -28,8 +27,7 @@ pub struct FileName {
 }
 
 impl Model for FileName {
-    ghost use Rattle.std.specs.Prelude.{◌≡◌, List, [], ℕ, IsTrue};
-    ghost use Rattle.std.specs.Coded.{coded_list, coded_ℕ};
+    ghost use Rattle.std.specs.{Prelude.{◌≡◌, List, [], ℕ, IsTrue}, Coded.{coded_list, coded_ℕ}};
     ghost use Rattle.tq_store.specs.Names.{is_file_name, name_in, padded_name};
 
     ghost Value = { List ℕ };
@@ -143,8 +141,7 @@ fn is_name(bytes: &[u8]) -> bool
 }
 
 impl PartialEq for FileName {
-    ghost use Rattle.std.specs.Prelude.{nat_eq};
-    ghost use Rattle.std.specs.Cmp.Lexicographic.{pointwise};
+    ghost use Rattle.std.specs.{Prelude.nat_eq, Cmp.Lexicographic.pointwise};
     ghost use Rattle.std.proofs.Common.{rules};
 
     ghost eq = { pointwise nat_eq };
@@ -195,10 +192,9 @@ impl Hash for FileName {
 }
 
 impl Ord for FileName {
-    ghost use Rattle.std.specs.Ordering.{nat_cmp};
-    ghost use Rattle.std.specs.Cmp.Lexicographic.{slice_cmp, nat_list_cmp_total};
-    ghost use Rattle.std.proofs.Common.{rules};
+    ghost use Rattle.std.specs.{Ordering.nat_cmp, Cmp.Lexicographic.{slice_cmp, nat_list_cmp_total}};
     ghost use Rattle.std.specs.Cmp.Rules.{comparing};
+    ghost use Rattle.std.proofs.Common.{rules};
 
     ghost cmp = { slice_cmp nat_cmp };
 
@@ -223,9 +219,7 @@ impl Ord for FileName {
 }
 
 impl PartialOrd for FileName {
-    ghost use Rattle.std.specs.Prelude.{Some};
-    ghost use Rattle.std.specs.Ordering.{nat_cmp};
-    ghost use Rattle.std.specs.Cmp.Lexicographic.{slice_cmp, texts_po};
+    ghost use Rattle.std.specs.{Prelude.Some, Ordering.nat_cmp, Cmp.Lexicographic.{slice_cmp, texts_po}};
 
     ghost partial_cmp = { λ x y. Some (slice_cmp nat_cmp x y) };
 

@@ -1,10 +1,8 @@
 //! Entries in a list, with an ordered map from each key to its place.
 ghost use Rattle.std.specs.Prelude.{◌≡◌, ◌+◌, ◌-◌, ◌<◌, ◌≤◌, ◌^◌, [], None, Some, IfNone, IfSome, IsOk, OnOk, is_some, length, position, slice_get, take};
-ghost use Rattle.std.specs.Borrow.{sem};
-ghost use Rattle.std.specs.List.{swap_remove, IsDistinct};
-ghost use Rattle.indexmap.specs.IndexMap.{get, index_map_len, keys, spare, swap_remove_entry, values, with_value_at, IsClone, IsUnchanged, IsUnique, Updates};
-ghost use Rattle.std.specs.Map.Iter.{deref_pair};
+ghost use Rattle.std.specs.{Borrow.sem, List.{swap_remove, IsDistinct}, Map.Iter.deref_pair};
 ghost use Rattle.std.specs.Option.{option_copied, option_copied_mut, option_map};
+ghost use Rattle.indexmap.specs.IndexMap.{get, index_map_len, keys, spare, swap_remove_entry, values, with_value_at, IsClone, IsUnchanged, IsUnique, Updates};
 ghost use Rattle.tq_store.specs.Bounded.{ArePlaced, HasEntryAt, HasOneLessIfThere, HasOneMoreIfNew, HasPut, with_last, with_spare};
 ghost use Rattle.tq_store.specs.Lends.{lends_value, ordered_lends_at, ordered_lends_get};
 
@@ -39,10 +37,8 @@ impl<K: Ord + Drop, V: Drop> Drop for Ordered<K, V> {
 }
 
 impl<K: Ord, V> Model for Ordered<K, V> {
-    ghost use Rattle.std.specs.Prelude.{◌≡◌, ⊤, ◌-◌, min, length};
-    ghost use Rattle.std.specs.List.{zip, IsDistinct};
-    ghost use Rattle.indexmap.specs.IndexMap.{IndexMap as Entries};
-    ghost use Rattle.indexmap.specs.Layout.{hash_map};
+    ghost use Rattle.std.specs.{Prelude.{◌≡◌, ⊤, ◌-◌, min, length}, List.{zip, IsDistinct}};
+    ghost use Rattle.indexmap.specs.{IndexMap.IndexMap as Entries, Layout.hash_map};
     ghost use Rattle.tq_store.specs.Bounded.{bounded_code, ArePlaced};
 
     ghost Value = { Entries K V ⊤ };

@@ -1,20 +1,14 @@
 -- The lines, gathered one after another, give the scripts or the first bad line. How reading ends by what was
 -- gathered.
 use Rattle.std.proofs.Common.{◌≡◌, ◌∙◌, ◌++◌, ◌+◌, ◌<◌, ◌≤◌, ◌&&◌, ℕ, suc, Bool, true, false, nat_lt, nat_le, cond, List, [], ◌∷◌, Option, Some, None, length, take, refl, sym, ap, subst, arith, append_assoc, length-append, inl, inr}
+use Rattle.std.proofs.lemmas.{List.append-nil, Bool.cases_lt}
 use Rattle.tq_shape.specs.Journal.{is_empty}
-use Rattle.std.specs.List.{list_all}
-use Rattle.std.specs.Option.{option_map_or}
-use Rattle.std.proofs.lemmas.List.{append-nil}
-use Rattle.tq_syntax.specs.declared.client.ClientLine.{ClientLine}
-use Rattle.tq_syntax.specs.declared.client.ClientLine.TheVariants as line
-use Rattle.tq_syntax.specs.declared.script.Line.{Line}
+use Rattle.std.specs.{List.list_all, Option.option_map_or, Prelude.{Result, Ok, Err}, Global.Vec}
+use Rattle.tq_syntax.specs.declared.{client.ClientLine.ClientLine, script.Line.Line, fault.ScriptFault.ScriptFault}
 use Rattle.tq_syntax.specs.Gathering.{Gathering, gathered_with, going_script, nothing_gathered, said_after, scripts_so_far, IsFinished, IsGatheredWith}
 use Rattle.tq_syntax.specs.Scripts.{Clients, IsFirstBad, are_good, clients_of, has_form, scripts_of, IsRead}
-use Rattle.std.specs.Prelude.{Result, Ok, Err}
-use Rattle.std.proofs.lemmas.Bool.{cases_lt}
-use Rattle.std.specs.Global.{Vec}
-use Rattle.tq_syntax.specs.declared.fault.ScriptFault.{ScriptFault}
 use Rattle.tq_syntax.specs.declared.fault.ScriptFault.TheVariants.{Memory, Bad}
+use Rattle.tq_syntax.specs.declared.client.ClientLine.TheVariants as line
 
 -- how the lines end: all are gathered, or that of a number is bad
 pub data Outcome : Type 0 where

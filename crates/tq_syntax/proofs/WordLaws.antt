@@ -1,11 +1,9 @@
 -- Words and numbers of a line. The decimal text of a number is read as that number.
 use Rattle.std.proofs.Common.{◌≡◌, ℕ, suc, ◌-◌, ◌<◌, ◌≤◌, ◌==◌, false, List, [], ◌∷◌, Some, None, Option, length, get_or, drop, take, refl, ap, ◌∙◌, arith, drop-cons, zero, ◌+◌, ◌*◌, ◌/◌, ◌%◌, ◌^◌, Bool, true, nat_lt, nat_le, ◌++◌, cond, ◌&&◌, append_assoc, sym}
-use Rattle.tq_syntax.specs.Word.{digits_then, digit_after, without_return, number_of}
-use Rattle.std.specs.Option.{unwrap_or}
-use Rattle.std.specs.Fmt.{decimal}
-use Rattle.std.proofs.lemmas.Bool.{ne_eqb, eqb-false}
-use Rattle.std.proofs.lemmas.List.{append-nil}
+use Rattle.std.proofs.lemmas.{Bool.{ne_eqb, eqb-false}, List.append-nil}
 use Rattle.std.proofs.lemmas.Fmt.{decimal_by_steps, decimal_digit, decimal_step, decimal_nonempty, first_decimal}
+use Rattle.tq_syntax.specs.Word.{digits_then, digit_after, without_return, number_of}
+use Rattle.std.specs.{Option.unwrap_or, Fmt.decimal}
 
 digits_then-none : (digits : List ℕ) → digits_then digits None ≡ None
 digits_then-none [] = refl

@@ -2,9 +2,8 @@
 use Rattle.std.specs.Prelude.{ℕ, nat_lt, ◌==◌, cond, List, Option, None, length, codes, option_map, unwrap_or}
 use Rattle.std.specs.Str.{bytes_eq}
 use Rattle.tq_syntax.specs.Word.{word_of, rest_of, nothing_in, one_number, cost_words, chosen_for, file_of, written_of}
-use Rattle.tq_syntax.specs.declared.script.Line.{Line}
+use Rattle.tq_syntax.specs.declared.{script.Line.Line, client.ClientLine.ClientLine}
 use Rattle.tq_syntax.specs.declared.script.Line.TheVariants.{Cost, Down, Up, Choose, Begin, Read, Write, Commit, Abort}
-use Rattle.tq_syntax.specs.declared.client.ClientLine.{ClientLine}
 use Rattle.tq_syntax.specs.declared.client.ClientLine.TheVariants.{Empty, Bad, Client, Said}
 
 -- what a client says, other than a write; the lines of its one transaction name none

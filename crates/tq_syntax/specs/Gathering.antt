@@ -1,11 +1,9 @@
 -- What is gathered of the lines of client scripts, line by line. How a line more ends, and how the last does.
 use Rattle.std.specs.Prelude.{nat_lt, cond, List, [], ◌∷◌, ◌++◌, length, Option, Some, None, ◌≡◌, ◌<◌, ℕ, Result, Ok, Err}
-use Rattle.tq_syntax.specs.declared.client.ClientLine.{ClientLine}
-use Rattle.tq_syntax.specs.declared.client.ClientLine.TheVariants as line
-use Rattle.tq_syntax.specs.declared.script.Line.{Line}
 use Rattle.std.specs.Global.{Vec}
-use Rattle.tq_syntax.specs.declared.fault.ScriptFault.{ScriptFault}
+use Rattle.tq_syntax.specs.declared.{client.ClientLine.ClientLine, script.Line.Line, fault.ScriptFault.ScriptFault}
 use Rattle.tq_syntax.specs.declared.fault.ScriptFault.TheVariants.{Memory, Bad}
+use Rattle.tq_syntax.specs.declared.client.ClientLine.TheVariants as line
 
 -- the scripts that ended, and what the client whose script goes on has said
 pub record Gathering : Type 0 where

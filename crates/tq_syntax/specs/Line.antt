@@ -1,11 +1,9 @@
 -- What the bytes of a line of the shell ask for.
 use Rattle.std.specs.Prelude.{ℕ, false, true, nat_lt, ◌==◌, cond, List, Option, Some, None, length, codes, option_map, option_and_then, unwrap_or}
-use Rattle.std.specs.Option.{option_or}
-use Rattle.std.specs.Str.{bytes_eq}
+use Rattle.std.specs.{Option.option_or, Str.bytes_eq}
 use Rattle.tq_syntax.specs.Word.{word_of, rest_of, nothing_in, one_number, first_number, cost_words, chosen_for, file_of, written_of, visit_of}
-use Rattle.tq_syntax.specs.declared.line.Line.{Line}
+use Rattle.tq_syntax.specs.declared.line.{Line.Line, TxnLine.TxnLine}
 use Rattle.tq_syntax.specs.declared.line.Line.TheVariants.{Empty, Bad, Cost, Mark, Choose, Begin, Refresh, Board, Txn}
-use Rattle.tq_syntax.specs.declared.line.TxnLine.{TxnLine}
 use Rattle.tq_syntax.specs.declared.line.TxnLine.TheVariants.{Read, Write, Prepare, Decide, Apply, Commit, Abort, Resolve, PrepareCrash, ApplyCrash}
 
 -- a vote that the server finishes, or in which it crashes

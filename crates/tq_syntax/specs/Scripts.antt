@@ -1,15 +1,11 @@
 -- The lines of bytes. What a text of client scripts says: the script of each client, or the first line that is bad.
 use Rattle.std.specs.Prelude.{ℕ, ◌==◌, List, [], ◌∷◌, ◌++◌, ◌≡◌, ◌⊎◌, ◌<◌, suc, Bool, true, false, ◌&&◌, nat_lt, nat_le, map, length, take, Result, Ok, Err}
-use Rattle.std.specs.List.{slice_split, list_all}
-use Rattle.tq_syntax.specs.Word.{without_return}
-use Rattle.std.specs.Global.{Vec}
-use Rattle.tq_shape.specs.Journal.{is_empty}
-use Rattle.tq_syntax.specs.ClientLine.{client_line_of}
-use Rattle.tq_syntax.specs.declared.client.ClientLine.{ClientLine}
-use Rattle.tq_syntax.specs.declared.client.ClientLine.TheVariants as line
-use Rattle.tq_syntax.specs.declared.script.Line.{Line}
-use Rattle.tq_syntax.specs.declared.fault.ScriptFault.{ScriptFault}
+use Rattle.std.specs.{List.{slice_split, list_all}, Global.Vec}
+use Rattle.tq_syntax.specs.{Word.without_return, ClientLine.client_line_of, declared.client.ClientLine.ClientLine}
+use Rattle.tq_syntax.specs.declared.{script.Line.Line, fault.ScriptFault.ScriptFault}
 use Rattle.tq_syntax.specs.declared.fault.ScriptFault.TheVariants.{Memory, Bad}
+use Rattle.tq_shape.specs.Journal.{is_empty}
+use Rattle.tq_syntax.specs.declared.client.ClientLine.TheVariants as line
 
 -- what stands after the last line feed is a line if it has a byte
 abbrev pub last_line : List ℕ → List (List ℕ)

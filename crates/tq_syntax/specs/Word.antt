@@ -1,18 +1,11 @@
 -- Words of a line, and decimal numbers. What follows a verb: the bytes behind its space, where it has one. Where they
 -- have another form there is no operand.
 use Rattle.std.specs.Prelude.{ℕ, ◌+◌, ◌-◌, ◌*◌, ◌^◌, ◌==◌, ◌&&◌, nat_lt, nat_le, cond, List, [], ◌∷◌, Option, Some, None, Bool, length, codes, option_and_then}
-use Rattle.std.specs.Option.{option_map, option_or}
-use Rattle.std.specs.Borrow.{Bor}
-use Rattle.std.specs.List.{list_all}
-use Rattle.std.specs.Str.{bytes_eq}
-use Rattle.tq_live.specs.Costs.{purpose_of}
-use Rattle.tq_live.specs.declared.purpose.Purpose.{Purpose}
+use Rattle.std.specs.{Option.{option_map, option_or}, Borrow.Bor, List.list_all, Str.bytes_eq}
+use Rattle.tq_live.specs.{Costs.purpose_of, declared.purpose.Purpose.Purpose}
 use Rattle.tq_live.specs.declared.purpose.Purpose.TheVariants as purposes
 use Rattle.tq_store.specs.Names.{is_file_name}
-use Rattle.tq_syntax.specs.declared.operands.CostWords.{CostWords}
-use Rattle.tq_syntax.specs.declared.operands.Numbers.{Numbers}
-use Rattle.tq_syntax.specs.declared.operands.Visit.{Visit}
-use Rattle.tq_syntax.specs.declared.operands.Written.{Written}
+use Rattle.tq_syntax.specs.declared.operands.{CostWords.CostWords, Numbers.Numbers, Visit.Visit, Written.Written}
 
 -- what an optional reference points to
 abbrev pub options_now : Option (Bor (List ℕ)) → Option (List ℕ)

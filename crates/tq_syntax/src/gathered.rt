@@ -20,10 +20,8 @@ pub(crate) struct Gathered {
 }
 
 impl Model for Gathered {
-    ghost use Rattle.std.specs.Global.{Vec};
-    ghost use Rattle.std.specs.Option.{option_map};
-    ghost use Rattle.tq_syntax.specs.declared.script.Line.{Line};
-    ghost use Rattle.tq_syntax.specs.Gathering.{Gathering};
+    ghost use Rattle.std.specs.{Global.Vec, Option.option_map};
+    ghost use Rattle.tq_syntax.specs.{declared.script.Line.Line, Gathering.Gathering};
 
     ghost Value = { Gathering };
 

@@ -1,7 +1,6 @@
 //! What follows a verb.
 
-ghost use Rattle.std.specs.Prelude.{◌≡◌, IfOk, option_map};
-ghost use Rattle.std.specs.List.{list_all};
+ghost use Rattle.std.specs.{Prelude.{◌≡◌, IfOk, option_map}, List.list_all};
 ghost use Rattle.tq_syntax.specs.Word as spec;
 ghost use Rattle.tq_syntax.specs.Word.{options_now, number_of};
 

@@ -1,7 +1,6 @@
 //! Words and numbers in bytes.
 
-ghost use Rattle.std.specs.Prelude.{◌≡◌, ◌+◌, ◌*◌, ◌<◌, ◌^◌, ℕ, IfSome, Some, List, length};
-ghost use Rattle.std.specs.Fmt.{decimal};
+ghost use Rattle.std.specs.{Prelude.{◌≡◌, ◌+◌, ◌*◌, ◌<◌, ◌^◌, ℕ, IfSome, Some, List, length}, Fmt.decimal};
 ghost use Rattle.std.specs.Str.{bytes_eq};
 ghost use Rattle.tq_syntax.specs.Word.{number_of, digits_after, digit_after, word_of, rest_of, options_now, without_return};
 

@@ -2,11 +2,9 @@
 use Rattle.std.specs.Prelude.{reverse, replicate}
 use Rattle.std.proofs.Common.{◌≡◌, ℕ, zero, suc, ◌+◌, ◌-◌, ◌<◌, ◌^◌, List, [], ◌∷◌, ◌++◌, length, map, take, set, get_or, refl, ap, sym, subst, ◌∙◌, arith, length-take-le}
 use Rattle.std.proofs.lemmas.List.{get_or-map, length-map, take_all}
-use Rattle.tq_shape.specs.declared.part.Entry.{Entry}
-use Rattle.tq_shape.specs.Journal.{IsLegal, IsLegalFrom}
+use Rattle.tq_shape.specs.{declared.part.Entry.Entry, Journal.{IsLegal, IsLegalFrom}}
 use Rattle.tq_shape.proofs.Joined.{legal-reverse, reverse-legal}
-use Rattle.tq_node.specs.NodeJournal.{NodeEntry, nothing_stored}
-use Rattle.tq_node.specs.Records.{node_after, node_reply}
+use Rattle.tq_node.specs.{NodeJournal.{NodeEntry, nothing_stored}, Records.{node_after, node_reply}}
 use Rattle.tq_desk.specs.DeskJournal.{DeskEntry, opened_desk, step_after, step_reply}
 use Rattle.tq_live.specs.View.{view_after_at, view_reply_at, view_state}
 use Rattle.tq_tables.specs.Tables.{FollowsDesk, FollowsNode, FollowsView, MayAskDesk, MayAskNode, entries_of, with_node, TablesView, tables_of}

@@ -1,46 +1,32 @@
 -- Tests of lists whose items are tested alike. Asks and replies that pass the test of being the same are the same, and
 -- the other way round.
 use Rattle.std.proofs.Common.{◌≡◌, ◌==◌, ◌&&◌, ◌∙◌, Bool, true, false, List, [], ◌∷◌, refl, ap, ℕ, Some, sym}
-use Rattle.std.specs.Cmp.Lexicographic.{pointwise, pointwise_decides}
-use Rattle.tq_locks.specs.declared.mode.Mode.{Mode}
-use Rattle.tq_locks.specs.declared.mode.Mode.TheVariants.{Shared, Exclusive}
+use Rattle.std.proofs.lemmas.Bool.{and_parts, eqb-true, eq-eqb, false≢true}
+use Rattle.std.specs.{Cmp.Lexicographic.{pointwise, pointwise_decides}, Bool.Decides}
+use Rattle.tq_locks.specs.declared.mode.{Mode.Mode, Mode.TheVariants.{Shared, Exclusive}}
 use Rattle.tq_locks.specs.contracts.mode.ModePartialEq.TheImpl as modes_eq
-use Rattle.tq_evidence.specs.declared.grant.Grant.{Grant}
+use Rattle.tq_evidence.specs.declared.{grant.Grant.Grant, op.Op.Op, op.OpKind.OpKind, vote.Vote.Vote, rule.Rule.Rule}
+use Rattle.tq_evidence.specs.Evidence.{rule_number, rule_at}
 use Rattle.tq_evidence.specs.contracts.grant.GrantPartialEq.TheImpl as grant_eq
-use Rattle.tq_evidence.specs.declared.op.Op.{Op}
-use Rattle.tq_evidence.specs.declared.op.OpKind.{OpKind}
 use Rattle.tq_evidence.specs.declared.op.OpKind.TheVariants as kinds
 use Rattle.tq_evidence.specs.contracts.op.OpKindPartialEq.TheImpl as kinds_eq
 use Rattle.tq_evidence.specs.contracts.op.OpPartialEq.TheImpl as op_eq
-use Rattle.tq_store.specs.Names.{same_name}
+use Rattle.tq_store.specs.{Names.same_name, declared.write.Write.Write}
 use Rattle.tq_tables.specs.Same.{same_mode, same_kind, same_grant, same_op, same_lock, same_write, same_work, same_node_ask, same_reason, same_node_reply, same_vote, same_desk_ask, same_desk_reason, same_desk_reply}
-use Rattle.std.specs.Bool.{Decides}
-use Rattle.std.proofs.lemmas.Bool.{and_parts, eqb-true, eq-eqb, false≢true}
-use Rattle.tq_store.specs.declared.write.Write.{Write}
-use Rattle.tq_asks.specs.declared.ask.CitedVote.{CitedVote}
-use Rattle.tq_asks.specs.declared.ask.HeldLock.{HeldLock}
-use Rattle.tq_asks.specs.declared.ask.Verdict.{Verdict}
+use Rattle.tq_asks.specs.declared.ask.{CitedVote.CitedVote, HeldLock.HeldLock, Verdict.Verdict, WorkAsk.WorkAsk}
+use Rattle.tq_asks.specs.declared.ask.{NodeAsk.NodeAsk, NodeRefusal.NodeRefusal, NodeReply.NodeReply}
+use Rattle.tq_asks.specs.Verdicts.{same_cited, same_verdict}
 use Rattle.tq_asks.specs.declared.ask.Verdict.TheVariants as verdicts
-use Rattle.tq_asks.specs.declared.ask.WorkAsk.{WorkAsk}
 use Rattle.tq_asks.specs.declared.ask.WorkAsk.TheVariants as work
-use Rattle.tq_asks.specs.declared.ask.NodeAsk.{NodeAsk}
 use Rattle.tq_asks.specs.declared.ask.NodeAsk.TheVariants as node_asks
-use Rattle.tq_asks.specs.declared.ask.NodeRefusal.{NodeRefusal}
 use Rattle.tq_asks.specs.declared.ask.NodeRefusal.TheVariants as reasons
-use Rattle.tq_asks.specs.declared.ask.NodeReply.{NodeReply}
 use Rattle.tq_asks.specs.declared.ask.NodeReply.TheVariants as replies
-use Rattle.tq_evidence.specs.declared.vote.Vote.{Vote}
-use Rattle.tq_evidence.specs.declared.rule.Rule.{Rule}
 use Rattle.tq_evidence.specs.declared.rule.Rule.TheVariants as rules
-use Rattle.tq_evidence.specs.Evidence.{rule_number, rule_at}
-use Rattle.tq_desk.specs.declared.ask.DeskAsk.{DeskAsk}
+use Rattle.tq_desk.specs.declared.ask.{DeskAsk.DeskAsk, DeskRefusal.DeskRefusal, DeskReply.DeskReply}
 use Rattle.tq_desk.specs.declared.ask.DeskAsk.TheVariants as desk_asks
-use Rattle.tq_desk.specs.declared.ask.DeskRefusal.{DeskRefusal}
 use Rattle.tq_desk.specs.declared.ask.DeskRefusal.TheVariants as desk_reasons
-use Rattle.tq_desk.specs.declared.ask.DeskReply.{DeskReply}
 use Rattle.tq_desk.specs.declared.ask.DeskReply.TheVariants as desk_replies
 use Rattle.tq_store.proofs.Padded.{same_name-is, same_name-refl}
-use Rattle.tq_asks.specs.Verdicts.{same_cited, same_verdict}
 
 pub pointwise-same : {A : Type 0} (f g : A → A → Bool) → ((a b : A) → f a b ≡ g a b) → (xs ys : List A) → pointwise f xs ys ≡ pointwise g xs ys
 pointwise-same f g same [] [] = refl

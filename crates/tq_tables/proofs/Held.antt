@@ -1,27 +1,17 @@
 -- The servers that may have a copy of a file with no row, as servers are asked and rows come.
-use Rattle.std.specs.Prelude.{◌||◌, ◌==◌, nat_lt, nat_le}
+use Rattle.std.specs.{Prelude.{◌||◌, ◌==◌, nat_lt, nat_le}, Bool.OnTrue, FinMap.get-empty, List.All}
 use Rattle.std.proofs.Common.{◌≡◌, ℕ, zero, suc, ◌+◌, ◌<◌, ◌≤◌, Bool, true, false, cond, List, [], ◌∷◌, length, map, set, take, get_or, replicate, Option, true≢false, refl, ap, sym, subst, ◌∙◌, arith}
-use Rattle.std.specs.Bool.{OnTrue}
-use Rattle.std.specs.FinMap.{get-empty}
-use Rattle.std.specs.List.{All}
-use Rattle.std.proofs.lemmas.Bool.{eqb-true}
-use Rattle.std.proofs.lemmas.List.{length-set, map-append}
+use Rattle.std.proofs.{lemmas.Bool.eqb-true, lemmas.List.{length-set, map-append}, SliceLists.all_by_recursion_push}
 use Rattle.std.proofs.lemmas.List.Elements.{All-nil, All-cons, All-head, All-tail, All-set}
-use Rattle.std.proofs.SliceLists.{all_by_recursion_push}
 use Rattle.tq_shape.specs.ServerSet.{Servers, has_number, with_number}
-use Rattle.tq_store.specs.Copies.{copy_at, copy_of, name_cmp}
-use Rattle.tq_store.specs.declared.write.Write.{Write}
-use Rattle.tq_store.specs.Names.{same_name}
+use Rattle.tq_store.specs.{Copies.{copy_at, copy_of, name_cmp}, declared.write.Write.Write, Names.same_name}
 use Rattle.tq_store.specs.declared.copies.FileCopy.{FileCopy}
 use Rattle.tq_store.proofs.Padded.{same_name-is}
 use Rattle.tq_node.specs.Node.{NodeView}
-use Rattle.tq_tables.specs.declared.file_row.FileRow.{FileRow}
-use Rattle.tq_tables.specs.declared.holders.Holders.{Holders}
+use Rattle.tq_tables.specs.declared.{file_row.FileRow.FileRow, holders.Holders.Holders}
 use Rattle.tq_tables.specs.Files.{AreHolders, HaveRows, OthersLack, has_row, held_by, all_stood, names_in, stood_at, with_row, with_rows}
-use Rattle.tq_tables.specs.Rows.{is_in, has_version, servers_where}
-use Rattle.tq_tables.specs.Parts.{AreOfTree, node_after_all, nodes_at}
-use Rattle.tq_tables.proofs.Kept.{names-stood, or_parts}
-use Rattle.tq_tables.proofs.RowLaws.{at-place, take-next}
+use Rattle.tq_tables.specs.{Rows.{is_in, has_version, servers_where}, Parts.{AreOfTree, node_after_all, nodes_at}}
+use Rattle.tq_tables.proofs.{Kept.{names-stood, or_parts}, RowLaws.{at-place, take-next}}
 use Rattle.tq_tables.proofs.Stood.{eq-self, same-set, those}
 
 -- ---- numbers in a set

@@ -1,35 +1,25 @@
 -- Lists of names in which none stands twice. Rows that are kept under the names of their files.
-use Rattle.std.specs.Prelude.{◌||◌, ◌&&◌, not}
+use Rattle.std.specs.{Prelude.{◌||◌, ◌&&◌, not}, Cmp.Lexicographic.texts_ties, FinMap.is_sorted}
+use Rattle.std.specs.{FinMap.Entries.below_all, Ordering.{is_lt, is_eq}, declared.cmp.Ordering.Ordering}
+use Rattle.std.specs.declared.cmp.Ordering.TheVariants.{Less, Equal, Greater}
 use Rattle.std.proofs.Common.{◌≡◌, ℕ, Bool, true, false, cond, List, [], ◌∷◌, ◌++◌, map, filter, refl, ap, sym, ◌∙◌, get_or, Some, None, is_some, subst}
+use Rattle.std.proofs.{lemmas.List.Folds.list_any-append, Math.Bool.and-false}
 use lib.Dec.{T}
 use mathlib.Core.Bool.{true≢false}
-use Rattle.std.specs.Cmp.Lexicographic.{texts_ties}
 use Rattle.std.specs.FinMap as fin
-use Rattle.std.specs.FinMap.{is_sorted}
-use Rattle.std.specs.FinMap.Entries.{below_all}
-use Rattle.std.specs.Ordering.{is_lt, is_eq}
-use Rattle.std.specs.declared.cmp.Ordering.{Ordering}
-use Rattle.std.specs.declared.cmp.Ordering.TheVariants.{Less, Equal, Greater}
-use Rattle.std.proofs.lemmas.List.Folds.{list_any-append}
-use Rattle.tq_store.specs.Copies.{name_cmp}
-use Rattle.tq_store.specs.Names.{same_name}
+use Rattle.tq_store.specs.{Copies.name_cmp, Names.same_name}
 use Rattle.tq_store.proofs.Padded.{same_name-is, same_name-refl, same_name-sym}
-use Rattle.std.proofs.Math.Bool.{and-false}
 pub use Rattle.std.proofs.Math.Bool.{or-false, or-true, or_comm}
 pub use Rattle.std.proofs.lemmas.Bool.{or_parts}
 pub use Rattle.std.proofs.lemmas.List.Elements.{filter_agree}
 pub use Rattle.tq_tables.specs.Rows.{is_in, Apart}
 use mathlib.Core.List.{map-map}
-use Rattle.std.specs.List.{All, list_any}
-use Rattle.std.specs.Map.{lookup}
-use Rattle.std.specs.Option.{unwrap_or}
-use Rattle.std.proofs.lemmas.List.{append-nil, append_assoc, map-id}
+use Rattle.std.specs.{List.{All, list_any}, Map.lookup, Option.unwrap_or}
+use Rattle.std.proofs.lemmas.{List.{append-nil, append_assoc, map-id}, Map.Made.is_some-lookup}
 use Rattle.std.proofs.lemmas.List.Elements.{All-nil, All-cons, All-head, All-map, All-tail}
-use Rattle.std.proofs.lemmas.Map.Made.{is_some-lookup}
 use Rattle.indexmap.specs.IndexMap.{insert_entry}
 use Rattle.tq_node.specs.Node.{NodeView}
-use Rattle.tq_tables.specs.declared.file_row.FileRow.{FileRow}
-use Rattle.tq_tables.specs.Rows.{count_in, version_of, has_version, row_at}
+use Rattle.tq_tables.specs.{declared.file_row.FileRow.FileRow, Rows.{count_in, version_of, has_version, row_at}}
 use Rattle.tq_tables.specs.Files.{AreExact, AreFiles, AreOfLevels, all_stood, row_after_move, names_in, row_in, row_by_copy, stood_at, version_in, with_row, with_rows, IsOfLevels, by_file}
 
 -- ---- booleans

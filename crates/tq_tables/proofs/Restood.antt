@@ -1,31 +1,23 @@
 -- The tables as a whole. The tables with an entry more of a server.
 use Rattle.std.proofs.Common.{◌≡◌, ◌+◌, ◌-◌, ◌^◌, ◌<◌, ℕ, zero, suc, cond, slice_index_or, ◌&&◌, List, [], length, map, refl, ap, ◌∙◌, arith, nat_le, ◌≤◌, false, ◌∷◌, ◌++◌, set, get_or}
+use Rattle.std.proofs.lemmas.{List.{length-map, get_or-set_same, get_or_default}, List.Elements.All-map, Nat.pow_pos}
 use Rattle.std.specs.FinMap as fin
-use Rattle.std.proofs.lemmas.List.{length-map, get_or-set_same, get_or_default}
-use Rattle.std.proofs.lemmas.List.Elements.{All-map}
-use Rattle.std.proofs.lemmas.Nat.{pow_pos}
 use Rattle.tq_desk.specs.DeskStep.{DeskView}
 use Rattle.tq_desk.specs.DeskJournal.{Commit, DeskBounds, DeskEntry, IsLegalDesk, desk_state, commits}
 use Rattle.tq_desk.proofs.DecisionLog.{desk_keeps}
-use Rattle.tq_live.specs.Live.{Live}
-use Rattle.tq_live.specs.View.{upwards}
-use Rattle.tq_live.specs.declared.purpose.Purpose.{Purpose}
+use Rattle.tq_live.specs.{Live.Live, View.upwards, declared.purpose.Purpose.Purpose}
 use Rattle.tq_live.specs.declared.purpose.Purpose.TheVariants as purposes
-use Rattle.tq_node.specs.Node.{NodeView, server_after}
-use Rattle.tq_tables.specs.declared.intent_rows.IntentState.TheVariants.{Unknown}
-use Rattle.tq_tables.specs.declared.file_row.FileRow.{FileRow}
+use Rattle.tq_node.specs.{Node.{NodeView, server_after}, NodeJournal.NodeEntry}
+use Rattle.tq_tables.specs.declared.{intent_rows.IntentState.TheVariants.Unknown, file_row.FileRow.FileRow}
 use Rattle.tq_tables.specs.Rows.{intent_state_at, file_row, intent_rows, intent_state, least_for, least_in, least_row, no_quorums, quorum_row, quorum_rows, row_at, state_by, file_rows, lock_rows, is_in}
-use Rattle.tq_shape.specs.Limits.{LimitsView}
-use Rattle.tq_tables.specs.Journals.{no_entries, JournalsView}
+use Rattle.tq_tables.specs.{Journals.{no_entries, JournalsView}, Files.{AreExact, all_stood}}
 use Rattle.tq_tables.specs.Parts.{PartsView, bounds_of, desk_at, parts_of, AreLegal, AreOfTree, node_after_all, nodes_at}
 use Rattle.tq_tables.specs.Tables.{tables_at, tables_of, TablesView, entries_of, with_node, MayAskNode, node_in}
-use Rattle.tq_tables.specs.Files.{AreExact, all_stood}
-use Rattle.std.specs.Prelude.{reverse}
-use Rattle.tq_node.specs.NodeJournal.{NodeEntry}
-use Rattle.tq_store.specs.Copies.{copy_of}
 use Rattle.tq_tables.specs.declared.intent_rows.IntentState.{IntentState}
-use Rattle.tq_tables.proofs.RowLaws.{answered-push, desk_at-is, at-place}
-use Rattle.tq_tables.proofs.Stood.{all_stood-are}
+use Rattle.tq_shape.specs.Limits.{LimitsView}
+use Rattle.std.specs.Prelude.{reverse}
+use Rattle.tq_store.specs.Copies.{copy_of}
+use Rattle.tq_tables.proofs.{RowLaws.{answered-push, desk_at-is, at-place}, Stood.all_stood-are}
 
 length-upwards : (first count : ℕ) → length (upwards first count) ≡ count
 length-upwards first zero = refl

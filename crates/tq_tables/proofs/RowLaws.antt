@@ -1,30 +1,22 @@
 -- Rows as they are gathered, one after another. The parts as their journals leave them, one entry after another.
 use Rattle.std.proofs.Common.{◌≡◌, ℕ, zero, suc, ◌+◌, ◌≤◌, ◌<◌, Bool, true, cond, List, [], ◌∷◌, ◌++◌, length, map, filter, take, get_or, ap, sym, subst, ◌∙◌, arith, Option, Some, None, refl, length-take-le}
-use mathlib.Core.List.{map-map}
-use Rattle.std.specs.List.{All}
 use Rattle.std.proofs.lemmas.List.{get_or-take, get_or_default, length-take, map-append, take_more, length_push}
 use Rattle.std.proofs.lemmas.List.Elements.{All-filter, All-map, filter-append}
-use Rattle.tq_shape.specs.ServerSet.{Servers}
-use Rattle.tq_shape.specs.Tree.{Server}
-use Rattle.tq_live.specs.View.{upwards, view_after, view_reply_at, view_after_at, view_state}
-use Rattle.tq_node.specs.Node.{NodeView, server_after}
-use Rattle.tq_tables.specs.Parts.{AreOfTree, node_at, desk_at, node_after_all, nodes_at, bounds_of}
-use Rattle.tq_tables.specs.Rows.{row_at, servers_where}
-use Rattle.std.specs.Prelude.{reverse}
-use Rattle.tq_shape.specs.Limits.{LimitsView}
-use Rattle.tq_shape.specs.Journal.{state_from, state_at}
-use Rattle.tq_shape.proofs.Joined.{state-push, state-reverse}
-use Rattle.tq_node.specs.Records.{NodeState, node_reply, node_after}
-use Rattle.tq_node.specs.Node as node
-use Rattle.tq_desk.specs.declared.ask.DeskAsk.{DeskAsk}
-use Rattle.tq_desk.specs.declared.ask.DeskAsk.TheVariants as desk_asks
-use Rattle.tq_desk.specs.declared.ask.DeskRefusal.{DeskRefusal}
-use Rattle.tq_desk.specs.DeskStep.{DeskView, desk_reply, desk_after, desk_refusal, desk_answered}
-use Rattle.tq_desk.specs.DeskStep as desk
-use Rattle.tq_desk.specs.DeskJournal.{desk_state, step_reply, step_after, DeskEntry}
-use Rattle.tq_live.specs.Live.{Live}
-use Rattle.tq_tables.specs.Journals.{ViewEntry}
+use mathlib.Core.List.{map-map}
+use Rattle.std.specs.{List.All, Prelude.reverse}
+use Rattle.tq_shape.specs.{ServerSet.Servers, Tree.Server, Limits.LimitsView, Journal.{state_from, state_at}}
+use Rattle.tq_live.specs.{View.{upwards, view_after, view_reply_at, view_after_at, view_state}, Live.Live}
+use Rattle.tq_node.specs.{Node.{NodeView, server_after}, Records.{NodeState, node_reply, node_after}}
 use Rattle.tq_node.specs.NodeJournal.{NodeEntry}
+use Rattle.tq_tables.specs.Parts.{AreOfTree, node_at, desk_at, node_after_all, nodes_at, bounds_of}
+use Rattle.tq_tables.specs.{Rows.{row_at, servers_where}, Journals.ViewEntry}
+use Rattle.tq_shape.proofs.Joined.{state-push, state-reverse}
+use Rattle.tq_node.specs.Node as node
+use Rattle.tq_desk.specs.declared.ask.{DeskAsk.DeskAsk, DeskRefusal.DeskRefusal}
+use Rattle.tq_desk.specs.DeskStep.{DeskView, desk_reply, desk_after, desk_refusal, desk_answered}
+use Rattle.tq_desk.specs.DeskJournal.{desk_state, step_reply, step_after, DeskEntry}
+use Rattle.tq_desk.specs.declared.ask.DeskAsk.TheVariants as desk_asks
+use Rattle.tq_desk.specs.DeskStep as desk
 
 -- ---- lists
 

@@ -1,18 +1,13 @@
 -- The row of a file after one commit more: only the servers that were current stand anew.
-use Rattle.std.specs.Prelude.{not, nat_le, ◌||◌, ◌==◌}
+use Rattle.std.specs.{Prelude.{not, nat_le, ◌||◌, ◌==◌}, List.{All, fold}}
 use Rattle.std.proofs.Common.{◌≡◌, ℕ, suc, ◌+◌, ◌-◌, ◌<◌, ◌≤◌, Bool, true, false, cond, List, [], ◌∷◌, length, map, filter, get_or, refl, ap, sym, subst, ◌∙◌, arith}
-use Rattle.std.specs.List.{All, fold}
-use Rattle.std.proofs.lemmas.Bool.{eqb-true}
-use Rattle.std.proofs.lemmas.List.{get_or_default}
+use Rattle.std.proofs.lemmas.{Bool.eqb-true, List.get_or_default}
 use Rattle.std.proofs.lemmas.List.Elements.{All-cons, All-filter, All-head, All-map, All-nil, All-tail}
-use Rattle.tq_shape.specs.ServerSet.{Ascends, has_number, servers_of_numbers}
-use Rattle.tq_shape.specs.Tree.{Server}
+use Rattle.tq_shape.specs.{ServerSet.{Ascends, has_number, servers_of_numbers}, Tree.Server}
 use Rattle.tq_store.specs.Copies.{copy_of}
 use Rattle.tq_node.specs.Node.{NodeView}
-use Rattle.tq_tables.specs.declared.file_row.FileRow.{FileRow}
-use Rattle.tq_tables.specs.Tables.{node_in}
+use Rattle.tq_tables.specs.{declared.file_row.FileRow.FileRow, Tables.node_in, Parts.{AreOfTree, node_after_all}}
 use Rattle.tq_tables.specs.Files.{row_after_move, row_by_copy, stood_in, IsOfLevels, OthersLack}
-use Rattle.tq_tables.specs.Parts.{AreOfTree, node_after_all}
 use Rattle.tq_tables.specs.Rows.{has_version, row_at, servers_where}
 use Rattle.tq_tables.proofs.RowLaws.{at-place}
 use Rattle.tq_tables.proofs.Stood.{eq-above, eq-below, head-placed, numbers-if, passing, placed, placed-later, those}

@@ -1,21 +1,15 @@
 -- Rows as a server stands in them after it changed.
-use Rattle.std.specs.Prelude.{◌||◌, ◌==◌, not, nat_le}
+use Rattle.std.specs.{Prelude.{◌||◌, ◌==◌, not, nat_le}, List.fold}
 use Rattle.std.proofs.Common.{◌≡◌, ℕ, zero, suc, ◌+◌, ◌<◌, Bool, true, false, cond, List, [], ◌∷◌, length, map, filter, set, get_or, refl, ap, sym, subst, ◌∙◌, arith}
-use mathlib.Core.List.{map-map}
-use Rattle.std.specs.List.{fold}
 use Rattle.std.proofs.lemmas.List.{length-set, map-id, set-set}
+use mathlib.Core.List.{map-map}
 use Rattle.tq_shape.specs.ServerSet.{Servers, with_number, without_number}
-use Rattle.tq_store.specs.Copies.{copy_of}
-use Rattle.tq_store.specs.Names.{same_name}
-use Rattle.tq_store.specs.declared.copies.FileCopy.{FileCopy}
-use Rattle.tq_store.proofs.Installed.{lt-false, lt-true}
-use Rattle.tq_store.proofs.Padded.{same_name-sym}
+use Rattle.tq_store.specs.{Copies.copy_of, Names.same_name, declared.copies.FileCopy.FileCopy}
+use Rattle.tq_store.proofs.{Installed.{lt-false, lt-true}, Padded.same_name-sym}
 use Rattle.tq_desk.specs.DeskJournal.{Commit, count}
 use Rattle.tq_node.specs.Node.{NodeView}
-use Rattle.tq_tables.specs.declared.file_row.FileRow.{FileRow}
-use Rattle.tq_tables.specs.Files.{all_stood, row_after_move, row_by_copy, stood_at}
-use Rattle.tq_tables.specs.Rows.{is_in, file_row, file_rows, files_in, has_version, row_at}
-use Rattle.tq_tables.specs.Parts.{AreOfTree}
+use Rattle.tq_tables.specs.{declared.file_row.FileRow.FileRow, Files.{all_stood, row_after_move, row_by_copy, stood_at}}
+use Rattle.tq_tables.specs.{Rows.{is_in, file_row, file_rows, files_in, has_version, row_at}, Parts.AreOfTree}
 
 -- ---- numbers
 

@@ -1,28 +1,24 @@
 -- The rows of files with one commit more.
 use Rattle.std.specs.Prelude.{◌||◌}
 use Rattle.std.proofs.Common.{◌≡◌, ℕ, ◌+◌, ◌<◌, ◌^◌, Bool, true, false, cond, List, [], ◌∷◌, length, map, refl, ap, sym, subst, ◌∙◌, arith}
+use Rattle.std.proofs.lemmas.{List.map-id, List.Elements.All-map}
 use mathlib.Core.List.{map-map}
 use mathlib.Core.Bool.{true≢false}
 use Rattle.std.specs.FinMap as fin
-use Rattle.std.proofs.lemmas.List.{map-id}
-use Rattle.std.proofs.lemmas.List.Elements.{All-map}
 use Rattle.indexmap.specs.IndexMap.{insert_entry}
 use Rattle.tq_store.specs.Names.{same_name}
 use Rattle.tq_store.proofs.Padded.{same_name-is, same_name-refl}
 use Rattle.tq_evidence.specs.declared.op.Op.{Op}
-use Rattle.tq_desk.specs.declared.ask.DeskAsk.{DeskAsk}
-use Rattle.tq_desk.specs.declared.ask.DeskAsk.TheVariants as asks
-use Rattle.tq_desk.specs.declared.ask.DeskReply.{DeskReply}
-use Rattle.tq_desk.specs.declared.ask.DeskReply.TheVariants as replies
-use Rattle.tq_desk.specs.DeskStep.{with_files}
+use Rattle.tq_desk.specs.{declared.ask.DeskAsk.DeskAsk, declared.ask.DeskReply.DeskReply, DeskStep.with_files}
 use Rattle.tq_desk.specs.DeskJournal.{Commit, count, with_commit}
+use Rattle.tq_desk.specs.declared.ask.DeskAsk.TheVariants as asks
+use Rattle.tq_desk.specs.declared.ask.DeskReply.TheVariants as replies
 use Rattle.tq_node.specs.Node.{NodeView}
 use Rattle.tq_tables.specs.declared.file_row.FileRow.{FileRow}
 use Rattle.tq_tables.specs.Rows.{count_in, commit_counts, names_of, version_of, with_each, with_one, is_in, Apart, file_rows, files_in, row_at}
 use Rattle.tq_tables.specs.Files.{AreOfLevels, IsOfLevels, committed_ops, version_in, with_row, with_rows}
 use Rattle.tq_tables.proofs.Counting.{is_in-names_of, count-most, count_in-counted, count_in-other, counted-more}
-use Rattle.tq_tables.proofs.Kept.{Apart-keys, differ, or-true}
-use Rattle.tq_tables.proofs.RowLaws.{rows-counted}
+use Rattle.tq_tables.proofs.{Kept.{Apart-keys, differ, or-true}, RowLaws.rows-counted}
 
 -- where no name is, there are none
 no_names : (names : List (List ℕ)) → ((name : List ℕ) → is_in name names ≡ false) → names ≡ []

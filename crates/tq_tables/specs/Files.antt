@@ -1,28 +1,18 @@
 -- The rows of files as they are kept, and how one of them changes. The servers that may have a copy of a file before a
 -- commit of it is followed, so that it has no row.
 use Rattle.std.specs.Prelude.{◌≡◌, ◌+◌, ◌≤◌, ℕ, Bool, true, false, cond, List, [], ◌∷◌, map, fold, slice_get, Option, Some, refl, length}
-use Rattle.std.specs.Coded.{Coded, code_by, coded×, coded_list, coded_ℕ}
-use Rattle.std.specs.List.{All, AllByRecursion}
-use Rattle.std.specs.Map.{lookup}
+use Rattle.std.specs.{Coded.{Coded, code_by, coded×, coded_list, coded_ℕ}, List.{All, AllByRecursion}, Map.lookup}
 use Rattle.indexmap.specs.IndexMap.{set_value_at}
-use Rattle.tq_shape.specs.Tree.{Server}
-use Rattle.tq_shape.specs.ServerSet.{Servers, with_number, without_number, has_number}
-use Rattle.tq_store.specs.Copies.{copy_of}
-use Rattle.tq_store.specs.Names.{same_name}
-use Rattle.tq_store.specs.declared.write.Write.{Write}
+use Rattle.tq_shape.specs.{Tree.Server, ServerSet.{Servers, with_number, without_number, has_number}}
+use Rattle.tq_store.specs.{Copies.copy_of, Names.same_name, declared.write.Write.Write}
 use Rattle.tq_asks.specs.declared.ask.NodeAsk.{NodeAsk}
 use Rattle.tq_evidence.specs.declared.op.Op.{Op}
-use Rattle.tq_desk.specs.declared.ask.DeskAsk.{DeskAsk}
+use Rattle.tq_desk.specs.declared.ask.{DeskAsk.DeskAsk, DeskReply.DeskReply}
 use Rattle.tq_desk.specs.declared.ask.DeskAsk.TheVariants as asks
-use Rattle.tq_desk.specs.declared.ask.DeskReply.{DeskReply}
 use Rattle.tq_desk.specs.declared.ask.DeskReply.TheVariants as replies
-use Rattle.tq_node.specs.Node.{NodeView}
-use Rattle.tq_node.specs.Telling.{offered_files, raised_files}
-use Rattle.tq_node.specs.declared.telling.Raised.{Raised}
-use Rattle.tq_tables.specs.Tables.{node_in}
+use Rattle.tq_node.specs.{Node.NodeView, Telling.{offered_files, raised_files}, declared.telling.Raised.Raised}
+use Rattle.tq_tables.specs.{Tables.node_in, declared.file_row.FileRow.FileRow, declared.holders.Holders.Holders}
 use Rattle.tq_tables.specs.Rows.{Apart, is_in, count_in, version_of, has_version, row_at, servers_where}
-use Rattle.tq_tables.specs.declared.file_row.FileRow.{FileRow}
-use Rattle.tq_tables.specs.declared.holders.Holders.{Holders}
 
 -- what callers see of a table of files: the levels of the tree of servers, the rows, and for how many files more there
 -- is room with no memory asked for

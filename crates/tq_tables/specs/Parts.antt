@@ -2,30 +2,19 @@
 -- parts.
 use Rattle.std.specs.Prelude.{◌≡◌, ℕ, ◌+◌, Bool, List, [], ◌∷◌, length, reverse, refl, ◌-◌, ◌<◌, slice_index_or, slice_set}
 use Rattle.std.specs.Coded.{Coded, code_by, coded×, coded_list, coded_ℕ, coded_bool}
-use Rattle.tq_shape.specs.Journal.{state_from}
-use Rattle.tq_shape.specs.Limits.{LimitsView}
-use Rattle.tq_node.specs.Records.{NodeState, node_after, node_reply}
+use Rattle.tq_shape.specs.{Journal.state_from, Limits.LimitsView}
+use Rattle.tq_node.specs.{Records.{NodeState, node_after, node_reply}, Node.{NodeView, node_code, server_after}}
+use Rattle.tq_node.specs.{NodeJournal.{IsLegalNode, NodeEntry}, Telling.{AreReached, KeepsOthers, raised_files}}
+use Rattle.tq_node.specs.declared.telling.{Raised.Raised, Telling.Telling}
 use Rattle.tq_node.specs.Node as node
-use Rattle.tq_intents.specs.declared.record.OpenVote.{OpenVote}
-use Rattle.tq_intents.specs.declared.record.Record.{Record}
-use Rattle.tq_asks.specs.declared.ask.Verdict.{Verdict}
-use Rattle.tq_node.specs.Node.{NodeView, node_code, server_after}
-use Rattle.tq_node.specs.NodeJournal.{IsLegalNode, NodeEntry}
-use Rattle.tq_desk.specs.DeskStep.{DeskView, desk_after}
+use Rattle.tq_intents.specs.declared.record.{OpenVote.OpenVote, Record.Record}
+use Rattle.tq_asks.specs.declared.ask.{Verdict.Verdict, NodeAsk.NodeAsk}
+use Rattle.tq_desk.specs.{DeskStep.{DeskView, desk_after}, DeskJournal.{desk_code, DeskBounds, IsLegalDesk, DeskEntry}}
+use Rattle.tq_desk.specs.{DeskPlans.desk_changed, declared.desk.DeskChange.DeskChange}
 use Rattle.tq_desk.specs.DeskStep as desk
-use Rattle.tq_desk.specs.DeskJournal.{desk_code, DeskBounds, IsLegalDesk, DeskEntry}
-use Rattle.tq_desk.specs.DeskPlans.{desk_changed}
-use Rattle.tq_desk.specs.declared.desk.DeskChange.{DeskChange}
-use Rattle.tq_live.specs.Live.{Live}
-use Rattle.tq_live.specs.Costs.{costs_code}
-use Rattle.tq_live.specs.declared.costs.Costs.{Costs}
+use Rattle.tq_live.specs.{Live.Live, Costs.costs_code, declared.costs.Costs.Costs, declared.view.ViewAsk.ViewAsk}
 use Rattle.tq_live.specs.View.{view_after, view_state, IsLegalView}
-use Rattle.tq_live.specs.declared.view.ViewAsk.{ViewAsk}
 use Rattle.tq_tables.specs.Journals.{JournalsView, ViewEntry}
-use Rattle.tq_asks.specs.declared.ask.NodeAsk.{NodeAsk}
-use Rattle.tq_node.specs.Telling.{AreReached, KeepsOthers, raised_files}
-use Rattle.tq_node.specs.declared.telling.Raised.{Raised}
-use Rattle.tq_node.specs.declared.telling.Telling.{Telling}
 
 -- the raw records of a server after the entries of its journal
 abbrev pub node_at : ℕ → List NodeEntry → NodeState

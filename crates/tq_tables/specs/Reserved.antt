@@ -1,18 +1,13 @@
 -- What the tables follow, and what is reserved beside it: an entry that a note takes with no memory.
-use Rattle.std.specs.Prelude.{◌≡◌, ℕ, Option, Some, None, IfSome, ⊤}
-use Rattle.std.specs.Global.{Box}
-use Rattle.std.specs.Option.{option_map}
+use Rattle.std.specs.{Prelude.{◌≡◌, ℕ, Option, Some, None, IfSome, ⊤}, Global.Box, Option.option_map}
 use Rattle.tq_shape.specs.declared.part.Part.{Part}
 use Rattle.tq_shape.specs.declared.part.Part.TheVariants as parts
-use Rattle.tq_tables.specs.declared.journals.PartEntry.{PartEntry}
-use Rattle.tq_tables.specs.declared.journals.PartEntry.TheVariants as lent
-use Rattle.tq_tables.specs.declared.ready_entry.PartAsk.{PartAsk}
-use Rattle.tq_tables.specs.declared.ready_entry.PartAsk.TheVariants as asks
-use Rattle.tq_tables.specs.declared.ready_entry.ReadyEntry.{ReadyEntry}
+use Rattle.tq_tables.specs.declared.{journals.PartEntry.PartEntry, ready_entry.PartAsk.PartAsk, ready_entry.Ready.Ready}
+use Rattle.tq_tables.specs.{declared.ready_entry.ReadyEntry.ReadyEntry, Files.AreHolders}
 use Rattle.tq_tables.specs.Tables.{FollowsDesk, FollowsNode, FollowsView, TablesView, tables_at}
-use Rattle.tq_tables.specs.Files.{AreHolders}
 use Rattle.tq_tables.specs.declared.followed.Followed.{Followed}
-use Rattle.tq_tables.specs.declared.ready_entry.Ready.{Ready}
+use Rattle.tq_tables.specs.declared.journals.PartEntry.TheVariants as lent
+use Rattle.tq_tables.specs.declared.ready_entry.PartAsk.TheVariants as asks
 
 -- what is followed, as tables beside which nothing is reserved
 abbrev pub tables_in : Followed → TablesView

@@ -2,42 +2,27 @@
 -- of a vote by what the desk keeps. A walk of the open votes. How many commits write each file, as it is counted one
 -- commit after another. Lists of names in which none stands twice.
 use Rattle.std.specs.Prelude.{ℕ, ◌-◌, ◌^◌, Bool, not, cond, nat_le, List, [], ◌∷◌, ◌++◌, map, filter, Option, Some, None, slice_index_or, sum_by, ◌==◌, ◌+◌, fold, ◌≡◌, false}
+use Rattle.std.specs.{List.{flat_map, list_any}, Option.{option_map, unwrap_or}, Cmp.Lexicographic.pointwise}
+use Rattle.std.specs.Map.{lookup}
 use Rattle.std.specs.FinMap as fin
-use Rattle.std.specs.List.{flat_map, list_any}
-use Rattle.std.specs.Option.{option_map, unwrap_or}
-use Rattle.tq_shape.specs.Tree.{Server}
-use Rattle.tq_shape.specs.ServerSet.{Servers}
-use Rattle.tq_store.specs.Copies.{copy_of}
-use Rattle.tq_store.specs.declared.write.Write.{Write}
-use Rattle.tq_locks.specs.Locks.{LockKey}
-use Rattle.tq_locks.specs.declared.mode.Lock.{Lock}
+use Rattle.tq_shape.specs.{Tree.Server, ServerSet.Servers}
+use Rattle.tq_store.specs.{Copies.copy_of, declared.write.Write.Write, Names.same_name}
+use Rattle.tq_locks.specs.{Locks.LockKey, declared.mode.Lock.Lock}
 use Rattle.tq_intents.specs.declared.record.OpenVote.{OpenVote}
 use Rattle.tq_node.specs.Node.{NodeView}
-use Rattle.tq_asks.specs.Verdicts.{cites_vote}
-use Rattle.tq_asks.specs.declared.ask.Verdict.{Verdict}
+use Rattle.tq_asks.specs.{Verdicts.cites_vote, declared.ask.Verdict.Verdict}
 use Rattle.tq_asks.specs.declared.ask.Verdict.TheVariants as verdicts
-use Rattle.tq_desk.specs.DeskStep.{with_files, DeskView, is_begun}
+use Rattle.tq_desk.specs.{DeskStep.{with_files, DeskView, is_begun}, DecisionLog.{is_txn, is_written}}
 use Rattle.tq_desk.specs.DeskJournal.{Commit, DeskEntry, commits, count, final}
-use Rattle.tq_desk.specs.DecisionLog.{is_txn, is_written}
-use Rattle.tq_live.specs.Live.{Live, best, cost_of}
-use Rattle.tq_live.specs.View.{upwards}
-use Rattle.tq_live.specs.declared.purpose.Purpose.{Purpose}
-use Rattle.tq_live.specs.declared.purpose.Purpose.TheVariants as purposes
+use Rattle.tq_live.specs.{Live.{Live, best, cost_of}, View.upwards, declared.purpose.Purpose.Purpose}
 use Rattle.tq_live.specs.declared.least.Least.{Least}
-use Rattle.tq_tables.specs.declared.file_row.FileRow.{FileRow}
-use Rattle.tq_tables.specs.declared.lock_rows.LockRow.{LockRow}
-use Rattle.tq_tables.specs.declared.quorum_rows.QuorumRow.{QuorumRow}
-use Rattle.tq_tables.specs.declared.intent_rows.FileVersion.{FileVersion}
-use Rattle.tq_tables.specs.declared.intent_rows.IntentRow.{IntentRow}
-use Rattle.tq_tables.specs.declared.intent_rows.IntentState.{IntentState}
+use Rattle.tq_live.specs.declared.purpose.Purpose.TheVariants as purposes
+use Rattle.tq_tables.specs.declared.{file_row.FileRow.FileRow, lock_rows.LockRow.LockRow, intent_rows.VotesAt.VotesAt}
+use Rattle.tq_tables.specs.declared.{quorum_rows.QuorumRow.QuorumRow, intent_rows.FileVersion.FileVersion}
+use Rattle.tq_tables.specs.declared.intent_rows.{IntentRow.IntentRow, IntentState.IntentState, OpenIntent.OpenIntent}
 use Rattle.tq_tables.specs.declared.intent_rows.IntentState.TheVariants.{Unknown, Undecided, Abort, Install, Discard}
-use Rattle.tq_tables.specs.declared.intent_rows.OpenIntent.{OpenIntent}
-use Rattle.tq_tables.specs.declared.intent_rows.VotesAt.{VotesAt}
-use Rattle.std.specs.Cmp.Lexicographic.{pointwise}
-use Rattle.std.specs.Map.{lookup}
 use Rattle.indexmap.specs.IndexMap.{insert_entry}
 use Rattle.tq_evidence.specs.declared.op.Op.{Op}
-use Rattle.tq_store.specs.Names.{same_name}
 
 -- a server as the tree has it
 abbrev pub server_of : NodeView → Server

@@ -1,32 +1,20 @@
 -- How lists begin. Whether two asks or two replies are the same, as tests.
-use Rattle.std.specs.Prelude.{◌≡◌, ◌++◌, List, ◌==◌, ◌&&◌, Bool, true, false}
-use Rattle.std.specs.Cmp.Lexicographic.{pointwise}
-use Rattle.tq_store.specs.declared.write.Write.{Write}
-use Rattle.tq_locks.specs.declared.mode.Mode.{Mode}
-use Rattle.tq_locks.specs.declared.mode.Mode.TheVariants.{Shared, Exclusive}
-use Rattle.tq_asks.specs.declared.ask.HeldLock.{HeldLock}
-use Rattle.tq_asks.specs.declared.ask.WorkAsk.{WorkAsk}
+use Rattle.std.specs.{Prelude.{◌≡◌, ◌++◌, List, ◌==◌, ◌&&◌, Bool, true, false}, Cmp.Lexicographic.pointwise}
+use Rattle.tq_store.specs.{declared.write.Write.Write, Names.same_name}
+use Rattle.tq_locks.specs.declared.mode.{Mode.Mode, Mode.TheVariants.{Shared, Exclusive}}
+use Rattle.tq_asks.specs.declared.ask.{HeldLock.HeldLock, WorkAsk.WorkAsk, NodeAsk.NodeAsk, NodeRefusal.NodeRefusal}
+use Rattle.tq_asks.specs.{declared.ask.NodeReply.NodeReply, Verdicts.{same_cited, same_verdict}}
 use Rattle.tq_asks.specs.declared.ask.WorkAsk.TheVariants as work
-use Rattle.tq_asks.specs.declared.ask.NodeAsk.{NodeAsk}
 use Rattle.tq_asks.specs.declared.ask.NodeAsk.TheVariants as node_asks
-use Rattle.tq_asks.specs.declared.ask.NodeRefusal.{NodeRefusal}
 use Rattle.tq_asks.specs.declared.ask.NodeRefusal.TheVariants as reasons
-use Rattle.tq_asks.specs.declared.ask.NodeReply.{NodeReply}
 use Rattle.tq_asks.specs.declared.ask.NodeReply.TheVariants as replies
-use Rattle.tq_asks.specs.Verdicts.{same_cited, same_verdict}
-use Rattle.tq_evidence.specs.declared.grant.Grant.{Grant}
-use Rattle.tq_evidence.specs.declared.op.Op.{Op}
-use Rattle.tq_evidence.specs.declared.op.OpKind.{OpKind}
-use Rattle.tq_evidence.specs.declared.op.OpKind.TheVariants as kinds
-use Rattle.tq_evidence.specs.declared.vote.Vote.{Vote}
+use Rattle.tq_evidence.specs.declared.{grant.Grant.Grant, op.Op.Op, op.OpKind.OpKind, vote.Vote.Vote}
 use Rattle.tq_evidence.specs.Evidence.{rule_number}
-use Rattle.tq_desk.specs.declared.ask.DeskAsk.{DeskAsk}
+use Rattle.tq_evidence.specs.declared.op.OpKind.TheVariants as kinds
+use Rattle.tq_desk.specs.declared.ask.{DeskAsk.DeskAsk, DeskRefusal.DeskRefusal, DeskReply.DeskReply}
 use Rattle.tq_desk.specs.declared.ask.DeskAsk.TheVariants as desk_asks
-use Rattle.tq_desk.specs.declared.ask.DeskRefusal.{DeskRefusal}
 use Rattle.tq_desk.specs.declared.ask.DeskRefusal.TheVariants as desk_reasons
-use Rattle.tq_desk.specs.declared.ask.DeskReply.{DeskReply}
 use Rattle.tq_desk.specs.declared.ask.DeskReply.TheVariants as desk_replies
-use Rattle.tq_store.specs.Names.{same_name}
 
 -- the list begins with these items
 abbrev pub Begins : {A : Type 0} → List A → List A → Type 0

@@ -3,8 +3,7 @@ use Rattle.std.specs.Prelude.{List}
 use Rattle.tq_shape.specs.Limits.{LimitsView}
 use Rattle.tq_node.specs.NodeJournal.{NodeEntry}
 use Rattle.tq_desk.specs.DeskJournal.{DeskEntry}
-use Rattle.tq_tables.specs.Journals.{JournalsView, ViewEntry, entries_in}
-use Rattle.tq_tables.specs.Tables.{TablesView}
+use Rattle.tq_tables.specs.{Journals.{JournalsView, ViewEntry, entries_in}, Tables.TablesView}
 use Rattle.tq_tables.specs.declared.tabled_journals.TabledJournals.{TabledJournals}
 
 -- the journals beside tables of that tree

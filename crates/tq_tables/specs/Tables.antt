@@ -2,36 +2,21 @@
 -- with one entry more of some part. What the tables want of an ask of a part, and the reply to it.
 use Rattle.std.specs.Prelude.{◌≡◌, ℕ, ◌+◌, ◌<◌, ◌^◌, List, length, reverse, Option, None, refl, ◌-◌, ◌≤◌, [], ◌∷◌, ◌++◌, slice_set, slice_index_or, ⊤}
 use Rattle.std.specs.Coded.{Coded, code_by, coded×, coded_list, coded_option, coded_ℕ}
-use Rattle.tq_intents.specs.declared.record.OpenVote.{OpenVote}
-use Rattle.tq_intents.specs.declared.record.Record.{Record}
-use Rattle.tq_node.specs.Node.{NodeView, node_code}
-use Rattle.tq_asks.specs.declared.ask.Verdict.{Verdict}
-use Rattle.tq_desk.specs.DeskStep.{DeskView, desk_reply}
-use Rattle.tq_desk.specs.DeskJournal.{desk_code, commits, DeskEntry}
-use Rattle.tq_live.specs.Live.{Live}
-use Rattle.tq_tables.specs.declared.quorum_rows.QuorumRow.{QuorumRow}
-use Rattle.tq_tables.specs.declared.file_row.FileRow.{FileRow}
-use Rattle.tq_tables.specs.declared.lock_rows.LockRow.{LockRow}
-use Rattle.tq_tables.specs.declared.intent_rows.IntentRow.{IntentRow}
-use Rattle.tq_tables.specs.declared.ready_entry.ReadyEntry.{ReadyEntry}
+use Rattle.tq_intents.specs.declared.record.{OpenVote.OpenVote, Record.Record}
+use Rattle.tq_node.specs.{Node.{NodeView, node_code}, NodeJournal.NodeEntry, Records.node_reply}
+use Rattle.tq_asks.specs.declared.ask.{Verdict.Verdict, NodeAsk.NodeAsk, NodeReply.NodeReply}
+use Rattle.tq_desk.specs.{DeskStep.{DeskView, desk_reply}, DeskJournal.{desk_code, commits, DeskEntry}}
+use Rattle.tq_desk.specs.declared.ask.{DeskAsk.DeskAsk, DeskReply.DeskReply}
+use Rattle.tq_live.specs.{Live.Live, View.view_reply, declared.view.ViewAsk.ViewAsk, declared.view.ViewReply.ViewReply}
+use Rattle.tq_tables.specs.declared.{quorum_rows.QuorumRow.QuorumRow, file_row.FileRow.FileRow, parts.Replies.Replies}
+use Rattle.tq_tables.specs.declared.{lock_rows.LockRow.LockRow, intent_rows.IntentRow.IntentRow}
+use Rattle.tq_tables.specs.{declared.ready_entry.ReadyEntry.ReadyEntry, Journals.{JournalsView, with_desk, with_view}}
 use Rattle.tq_tables.specs.Rows.{intent_state_at, quorum_rows, file_rows, lock_rows, intent_state, intent_rows}
-use Rattle.tq_tables.specs.Journals.{JournalsView, with_desk, with_view}
 use Rattle.tq_tables.specs.Parts.{AreLegal, PartsView, live_code, parts_of, node_after_all}
-use Rattle.tq_node.specs.NodeJournal.{NodeEntry}
-use Rattle.tq_shape.specs.declared.part.Part.{Part}
-use Rattle.tq_shape.specs.declared.part.Part.TheVariants as part_names
 use Rattle.tq_tables.specs.declared.journals.PartEntry.{PartEntry}
+use Rattle.tq_shape.specs.{declared.part.Part.Part, Journal.entry}
+use Rattle.tq_shape.specs.declared.part.Part.TheVariants as part_names
 use Rattle.tq_tables.specs.declared.journals.PartEntry.TheVariants as lent
-use Rattle.tq_shape.specs.Journal.{entry}
-use Rattle.tq_asks.specs.declared.ask.NodeAsk.{NodeAsk}
-use Rattle.tq_asks.specs.declared.ask.NodeReply.{NodeReply}
-use Rattle.tq_node.specs.Records.{node_reply}
-use Rattle.tq_desk.specs.declared.ask.DeskAsk.{DeskAsk}
-use Rattle.tq_desk.specs.declared.ask.DeskReply.{DeskReply}
-use Rattle.tq_live.specs.View.{view_reply}
-use Rattle.tq_live.specs.declared.view.ViewAsk.{ViewAsk}
-use Rattle.tq_live.specs.declared.view.ViewReply.{ViewReply}
-use Rattle.tq_tables.specs.declared.parts.Replies.{Replies}
 
 -- the servers, the desk and the view that the tables follow, and of them: for each server upwards the least quorums of its
 -- subtree, the files that commits wrote, the locks, and the open intentions; last the entry that a note will take with no

@@ -19,8 +19,7 @@ pub(crate) struct FileNames {
 
 impl Model for FileNames {
     ghost use Rattle.std.specs.FinMap as map;
-    ghost use Rattle.tq_desk.specs.DeskStep.{FileSet};
-    ghost use Rattle.tq_desk.specs.DeskJournal.{files_code};
+    ghost use Rattle.tq_desk.specs.{DeskStep.FileSet, DeskJournal.files_code};
 
     ghost Value = { FileSet };
 

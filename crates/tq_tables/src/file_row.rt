@@ -1,11 +1,9 @@
 //! The row of a file.
 
-ghost use Rattle.std.specs.Prelude.{◌≡◌, ◌+◌, ◌<◌, ◌≤◌, ◌^◌, length, IfOk};
-ghost use Rattle.std.specs.List.{All};
+ghost use Rattle.std.specs.{Prelude.{◌≡◌, ◌+◌, ◌<◌, ◌≤◌, ◌^◌, length, IfOk}, List.All};
 ghost use Rattle.tq_shape.specs.ServerSet.{Ascends, servers_of_numbers};
 ghost use Rattle.tq_store.specs.Copies.{copy_of};
-ghost use Rattle.tq_tables.specs.Files.{IsExact, next_row, row_by_copy, stood_in};
-ghost use Rattle.tq_tables.specs.Parts.{AreOfTree};
+ghost use Rattle.tq_tables.specs.{Files.{IsExact, next_row, row_by_copy, stood_in}, Parts.AreOfTree};
 
 use tq_node::Node;
 use tq_shape::{Memory, ServerSet};

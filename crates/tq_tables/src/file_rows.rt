@@ -1,9 +1,7 @@
 //! The rows of files that commits among entries write.
 
-ghost use Rattle.std.specs.Prelude.{◌≡◌, ◌+◌, ◌<◌, ◌≤◌, ◌^◌, ℕ, List, true, length, map, IfOk};
-ghost use Rattle.std.specs.List.{All};
-ghost use Rattle.tq_tables.specs.Rows.{names_of};
-ghost use Rattle.tq_tables.specs.Files.{AreHolders, OthersLack, AreExact, version_in, written_row};
+ghost use Rattle.std.specs.{Prelude.{◌≡◌, ◌+◌, ◌<◌, ◌≤◌, ◌^◌, ℕ, List, true, length, map, IfOk}, List.All};
+ghost use Rattle.tq_tables.specs.{Rows.names_of, Files.{AreHolders, OthersLack, AreExact, version_in, written_row}};
 ghost use Rattle.tq_tables.specs.Parts.{AreOfTree};
 ghost use Rattle.tq_tables.specs.Rows as spec;
 

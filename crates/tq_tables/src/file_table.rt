@@ -1,12 +1,10 @@
 //! The rows of files, found by the names of the files.
 ghost use Rattle.std.specs.Prelude.{[], ◌≡◌, ◌≤◌, ◌<◌, ◌+◌, true, length, map, IfOk, IsTrue, OnOk};
-ghost use Rattle.std.specs.Bool.{OnFalse, OnTrue};
-ghost use Rattle.std.specs.Option.{option_copied};
+ghost use Rattle.std.specs.{Bool.{OnFalse, OnTrue}, Option.option_copied};
 ghost use Rattle.tq_node.specs.Telling.{AreReached, HasOffered, offered_files, raised_files};
 ghost use Rattle.tq_store.specs.Copies.{copy_of};
-ghost use Rattle.tq_tables.specs.Rows.{Apart};
+ghost use Rattle.tq_tables.specs.{Rows.Apart, Files.{AreOfLevels, HasRowAt, by_file, HaveRows, has_row}};
 ghost use Rattle.tq_tables.specs.Files as spec;
-ghost use Rattle.tq_tables.specs.Files.{AreOfLevels, HasRowAt, by_file, HaveRows, has_row};
 
 use crate::FileRow;
 use crate::file_rows::copy_files;

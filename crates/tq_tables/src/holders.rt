@@ -1,8 +1,6 @@
 //! The servers that may have a copy of a file before a commit of it is followed.
 ghost use Rattle.std.specs.Prelude.{◌≡◌, ◌-◌, ◌^◌, [], true, replicate, IfOk};
-ghost use Rattle.tq_tables.specs.Files.{AreHolders, held_by};
-ghost use Rattle.tq_tables.specs.Parts.{AreOfTree, nodes_at};
-ghost use Rattle.tq_tables.specs.Rows.{servers_where};
+ghost use Rattle.tq_tables.specs.{Files.{AreHolders, held_by}, Parts.{AreOfTree, nodes_at}, Rows.servers_where};
 
 use std::alloc::Global;
 use tq_node::Node;

@@ -1,7 +1,6 @@
 //! The rows of the votes that are open.
 
-ghost use Rattle.std.specs.Prelude.{◌≡◌, map, IfOk, Some};
-ghost use Rattle.std.specs.Iterator.{YieldsFirstBy};
+ghost use Rattle.std.specs.{Prelude.{◌≡◌, map, IfOk, Some}, Iterator.YieldsFirstBy};
 ghost use Rattle.tq_tables.specs.Rows.{intent_rows_at, intent_state_at, left_at, lent_row};
 ghost use Rattle.tq_tables.specs.Rows as spec;
 

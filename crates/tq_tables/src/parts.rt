@@ -48,8 +48,7 @@ impl Model for Parts {
 }
 
 impl Parts {
-    ghost use Rattle.tq_tables.specs.Journals.{no_entries};
-    ghost use Rattle.tq_tables.specs.Parts.{AreOfTree, parts_of, with_change, with_view_asked};
+    ghost use Rattle.tq_tables.specs.{Journals.no_entries, Parts.{AreOfTree, parts_of, with_change, with_view_asked}};
 
     /// The parts of a system that was asked nothing.
     pub(crate) fn new(alloc: Global, levels: Levels, limits: Limits) -> Result<Parts, Memory>

@@ -1,7 +1,6 @@
 //! The rows of all subtrees' least quorums.
 
-ghost use Rattle.std.specs.Prelude.{◌≡◌, IfOk};
-ghost use Rattle.std.specs.Bool.{OnFalse};
+ghost use Rattle.std.specs.{Prelude.{◌≡◌, IfOk}, Bool.OnFalse};
 ghost use Rattle.tq_tables.specs.Rows as spec;
 
 use std::alloc::Global;

@@ -1,9 +1,7 @@
 //! Tables beside bare journals.
 
 ghost use Rattle.std.specs.Prelude.{◌≡◌, ◌-◌, ◌^◌, [], replicate, IfOk};
-ghost use Rattle.tq_tables.specs.Journals.{AreJournals, entries_in, no_entries};
-ghost use Rattle.tq_tables.specs.Parts.{AreLegal};
-ghost use Rattle.tq_tables.specs.Tabled.{journals_of};
+ghost use Rattle.tq_tables.specs.{Journals.{AreJournals, entries_in, no_entries}, Parts.AreLegal, Tabled.journals_of};
 ghost use Rattle.tq_tables.specs.Tables.{tables_of};
 
 use crate::{DeskEntry, Journals, NodeEntry, Tables, ViewEntry};

@@ -1,13 +1,11 @@
 //! The tables of a system.
 
 ghost use Rattle.std.specs.Prelude.{◌≡◌, ◌+◌, ◌^◌, ◌↔◌, true, Some, None, length, IsTrue, IfOk, IsOk, OnOk, OnErr};
-ghost use Rattle.std.specs.Bool.{OnFalse};
-ghost use Rattle.std.specs.List.{All};
-ghost use Rattle.tq_live.specs.Live.{Live};
-ghost use Rattle.tq_live.specs.View.{view_after};
+ghost use Rattle.std.specs.{Bool.OnFalse, List.All};
+ghost use Rattle.tq_live.specs.{Live.Live, View.view_after};
 ghost use Rattle.tq_tables.specs.Tables.{FollowsDesk, FollowsNode, FollowsView, MayAskDesk, MayAskNode, desk_replies, node_replies, view_replies, TablesView};
-ghost use Rattle.tq_tables.specs.Files as spec;
 ghost use Rattle.tq_tables.specs.Reserved.{IsReserve, ready_entry, reserved_entry};
+ghost use Rattle.tq_tables.specs.Files as spec;
 
 use crate::file_rows::rows_written;
 use crate::file_table::FileTable;
@@ -74,11 +72,9 @@ impl Model for Tables {
 }
 
 impl Tables {
-    ghost use Rattle.tq_tables.specs.Tables.{FollowsEntry, IsNextEntry, tables_of};
-    ghost use Rattle.tq_tables.specs.Journals.{no_entries};
-    ghost use Rattle.tq_tables.specs.Parts.{AreLegal};
+    ghost use Rattle.tq_tables.specs.{Tables.{FollowsEntry, IsNextEntry, tables_of}, Journals.no_entries};
+    ghost use Rattle.tq_tables.specs.{Parts.AreLegal, Rows.{row_if, least_in}};
     ghost use Rattle.tq_tables.specs.Reserved.{AreFollowed, IsReadyFor, LeadsTo, ask_of, tables_in, unready};
-    ghost use Rattle.tq_tables.specs.Rows.{row_if, least_in};
 
     /// The tables of a system that was asked nothing.
     pub fn new(alloc: Global, levels: Levels, limits: Limits) -> Result<Tables, Memory>

@@ -1,31 +1,22 @@
 -- How answers are printed. The texts of refusals.
 use Rattle.std.specs.Prelude.{◌≡◌, ℕ, Bool, cond, List, [], ◌∷◌, ◌++◌, codes, Option, Some, None, true, false, take}
-use Rattle.std.specs.List.{flat_map}
-use Rattle.std.specs.Fmt.{decimal}
-use Rattle.std.specs.Global.{Vec}
-use Rattle.tq_asks.specs.declared.ask.Verdict.{Verdict}
+use Rattle.std.specs.{List.flat_map, Fmt.decimal, Global.Vec}
+use Rattle.tq_asks.specs.declared.ask.{Verdict.Verdict, Verdict.TheVariants.{Abort, Commit}, NodeRefusal.NodeRefusal}
+use Rattle.tq_asks.specs.declared.ask.NodeRefusal.TheVariants.{Down, AlreadyUp, AlreadyDown, Held, Prepared, NotLocked, BadWrites, NotNewer, NothingHere}
 use Rattle.tq_asks.specs.declared.ask.Verdict.TheVariants as verdicts
-use Rattle.tq_evidence.specs.declared.op.Op.{Op}
-use Rattle.tq_evidence.specs.Evidence.{servers_of, rule_number}
-use Rattle.tq_live.specs.declared.view.ViewReply.{ViewReply}
+use Rattle.tq_evidence.specs.{declared.op.Op.Op, Evidence.{servers_of, rule_number}}
+use Rattle.tq_live.specs.declared.view.{ViewReply.ViewReply, ViewRefusal.ViewRefusal}
 use Rattle.tq_live.specs.declared.view.ViewReply.TheVariants as replies
 use Rattle.tq_live.specs.declared.view.ViewRefusal.TheVariants as refusals
 use Rattle.tq_store.specs.declared.copies.FileCopy.{FileCopy}
-use Rattle.tq_txn.specs.declared.txn.Applied.{Applied}
-use Rattle.tq_txn.specs.declared.txn.Applied.TheVariants.{Installed, Discarded}
-use Rattle.tq_txn.specs.declared.txn.ReadAnswer.{ReadAnswer}
-use Rattle.tq_txn.specs.declared.txn.ReadAnswer.TheVariants.{Pending, Copy}
-use Rattle.tq_shape.specs.declared.part.Part.{Part}
-use Rattle.tq_shape.specs.declared.part.Part.TheVariants.{Server, Desk, View}
-use Rattle.tq_asks.specs.declared.ask.Verdict.TheVariants.{Abort, Commit}
-use Rattle.tq_asks.specs.declared.ask.NodeRefusal.{NodeRefusal}
-use Rattle.tq_asks.specs.declared.ask.NodeRefusal.TheVariants.{Down, AlreadyUp, AlreadyDown, Held, Prepared, NotLocked, BadWrites, NotNewer, NothingHere}
+use Rattle.tq_txn.specs.declared.txn.{Applied.Applied, Applied.TheVariants.{Installed, Discarded}}
+use Rattle.tq_txn.specs.declared.txn.{ReadAnswer.ReadAnswer, ReadAnswer.TheVariants.{Pending, Copy}}
+use Rattle.tq_txn.specs.declared.fault.LineFault.{LineFault}
+use Rattle.tq_shape.specs.declared.part.{Part.Part, Part.TheVariants.{Server, Desk, View}}
 use Rattle.tq_desk.specs.declared.ask.DeskRefusal.{DeskRefusal}
 use Rattle.tq_desk.specs.declared.ask.DeskRefusal.TheVariants as desk
-use Rattle.tq_live.specs.declared.view.ViewRefusal.{ViewRefusal}
 use Rattle.tq_txn_states.specs.declared.fault.TxnFault.{TxnFault}
 use Rattle.tq_txn_states.specs.declared.fault.TxnFault.TheVariants as txn
-use Rattle.tq_txn.specs.declared.fault.LineFault.{LineFault}
 use Rattle.tq_txn.specs.declared.fault.LineFault.TheVariants as faults
 
 -- a text goes on from what stood in it

@@ -1,8 +1,6 @@
 //! Answers as lines.
 
-ghost use Rattle.std.specs.Prelude.{◌≡◌, ◌++◌, ◌∷◌, OnOk, OnErr, map};
-ghost use Rattle.std.specs.Fmt.{decimal};
-ghost use Rattle.std.specs.Option.{option_copied};
+ghost use Rattle.std.specs.{Prelude.{◌≡◌, ◌++◌, ◌∷◌, OnOk, OnErr, map}, Fmt.decimal, Option.option_copied};
 ghost use Rattle.tq_coterie.specs.Coterie.{numbers_of};
 ghost use Rattle.tq_text.specs.Print as spec;
 ghost use Rattle.tq_text.specs.Print.{Appends, Extends, Prints, numbers_text, choice_text};

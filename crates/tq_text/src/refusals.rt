@@ -1,7 +1,6 @@
 //! Refusals as words.
 
-ghost use Rattle.std.specs.Prelude.{◌≡◌, ◌++◌, false, take, OnOk, OnErr};
-ghost use Rattle.std.specs.Fmt.{decimal};
+ghost use Rattle.std.specs.{Prelude.{◌≡◌, ◌++◌, false, take, OnOk, OnErr}, Fmt.decimal};
 ghost use Rattle.tq_text.specs.Print.{Appends, Extends, Prints};
 ghost use Rattle.tq_text.specs.Print as spec;
 

@@ -1,24 +1,19 @@
 -- How a commit ends. What becomes of a transaction as the desk and others are told of it, part by part.
 use Rattle.std.proofs.Common.{◌≡◌, ℕ, true, false, not, cond, List, ◌∷◌, Option, Some, None, Result, Ok, Err, refl, sym, subst, ◌∙◌, ◌++◌, is_some, [], ap, append-nil}
-use Rattle.tq_shape.specs.Tree.{Server}
+use Rattle.tq_shape.specs.{Tree.Server, declared.fault.AskFault.AskFault}
 use Rattle.tq_coterie.specs.Coterie.{numbers_of}
 use Rattle.tq_desk.specs.declared.ask.DeskAsk.{DeskAsk}
-use Rattle.tq_txn.specs.declared.asker.Exchange.{Exchange}
-use Rattle.tq_txn.specs.declared.fault.LineFault.{LineFault}
-use Rattle.tq_txn_states.specs.declared.fault.TxnFault.{TxnFault}
-use Rattle.tq_txn_states.specs.declared.fault.TxnFault.TheVariants as txn_faults
-use Rattle.tq_txn_states.specs.declared.told.DeskTold.{DeskTold}
-use Rattle.tq_txn.specs.declared.txn.Txn.{Txn}
-use Rattle.tq_txn.specs.declared.txn.Txn.TheVariants as states
+use Rattle.tq_txn.specs.declared.{asker.Exchange.Exchange, fault.LineFault.LineFault, txn.Txn.Txn}
 use Rattle.tq_txn.specs.Commits.{prepares_line, commit_answer, txn_after_answer, ready_line, decide_line, commit_end, decide_and_end_line, commit_line, txn_after_resolve}
-use Rattle.tq_txn_states.specs.Ended.{EndedView, verdict_in}
 use Rattle.tq_txn.specs.Dialogue.{LineEnd, Follows, line_done, ended_by, desk_line, desk_exchange}
 use Rattle.tq_txn.specs.Lines.{answers, prepare_line, ending_line}
-use Rattle.tq_txn_states.specs.Voting.{VotingView, has_votes, ready_fault, evidence_of, IsVotedOn}
-use Rattle.tq_txn.proofs.LineLaws.{follows_end, follows_answer, follows_on, follows_off}
-use Rattle.tq_shape.specs.declared.fault.AskFault.{AskFault}
-use Rattle.tq_txn_states.specs.Open.{OpenView}
 use Rattle.tq_txn.specs.Told.{Grown, IsStill, levels_of, number_of, EndsWhereTold, IsAnswered, IsEnding, IsKnown, is_ended}
+use Rattle.tq_txn_states.specs.{declared.fault.TxnFault.TxnFault, declared.told.DeskTold.DeskTold, Open.OpenView}
+use Rattle.tq_txn_states.specs.Ended.{EndedView, verdict_in}
+use Rattle.tq_txn_states.specs.Voting.{VotingView, has_votes, ready_fault, evidence_of, IsVotedOn}
+use Rattle.tq_txn_states.specs.declared.fault.TxnFault.TheVariants as txn_faults
+use Rattle.tq_txn.specs.declared.txn.Txn.TheVariants as states
+use Rattle.tq_txn.proofs.LineLaws.{follows_end, follows_answer, follows_on, follows_off}
 use Rattle.tq_txn.proofs.EndLaws.{Untold, ends_after, ends_answered, ends_before, ends_nothing, ends_refused, resolved_answered, resolved_ends, resolved_still, gathered_on, still_same}
 use Rattle.tq_txn.proofs.KnownLaws.{knows_answered, knows_grow, ends_as_told, ends_unasked, ends_within}
 

@@ -1,23 +1,19 @@
 -- The parts of a line that ask servers alone.
 use Rattle.std.specs.List.{list_any}
 use Rattle.std.proofs.Common.{◌≡◌, ap, ◌∙◌, ℕ, Bool, true, false, cond, List, [], ◌∷◌, ◌++◌, Option, Some, None, Result, Ok, Err, sym, subst, inl, inr}
-use Rattle.tq_asks.specs.declared.ask.NodeReply.{NodeReply}
-use Rattle.tq_asks.specs.declared.ask.NodeRefusal.{NodeRefusal}
+use Rattle.tq_asks.specs.declared.ask.{NodeReply.NodeReply, NodeRefusal.NodeRefusal}
 use Rattle.tq_desk.specs.declared.ask.DeskReply.{DeskReply}
 use Rattle.tq_live.specs.declared.view.ViewReply.{ViewReply}
-use Rattle.tq_txn_states.specs.declared.fault.TxnFault.{TxnFault}
-use Rattle.tq_txn_states.specs.declared.told.NodeTold.{NodeTold}
+use Rattle.tq_txn_states.specs.declared.{fault.TxnFault.TxnFault, told.NodeTold.NodeTold}
 use Rattle.tq_txn_states.specs.Ended.{EndedView, decide_ask}
 use Rattle.tq_txn_states.specs.Voting.{VotingView, has_vote, ask_fault, prepare_ask, vote_fault, vote_after}
-use Rattle.tq_txn.specs.declared.asker.Exchange.{Exchange}
-use Rattle.tq_txn.specs.declared.asker.Exchange.TheVariants as exchanges
-use Rattle.tq_txn.specs.declared.fault.LineFault.{LineFault}
-use Rattle.tq_txn.specs.declared.txn.Txn.{Txn}
-use Rattle.tq_txn.specs.declared.txn.Txn.TheVariants as states
+use Rattle.tq_txn.specs.declared.{asker.Exchange.Exchange, fault.LineFault.LineFault, txn.Txn.Txn}
 use Rattle.tq_txn.specs.Commits.{is_abort, abort_answer, end_aborted, abort_end, prepares_line, commit_end}
 use Rattle.tq_txn.specs.Dialogue.{Told, Dialogue, Ends, AsksNode, AsksDesk, AsksView, Makes, Begins, Follows, LineEnd, then_line, line_done, go_on, and_then, unless, on_told, node_line}
 use Rattle.tq_txn.specs.Lines.{answers, refusal_in, refused_at, vote_answer, first_prepare, prepare_line, any_line, is_nothing_here, release_line, end_line, ending_line}
 use Rattle.tq_txn.specs.Told.{CitesTold, CitesSince, tells_end}
+use Rattle.tq_txn.specs.declared.asker.Exchange.TheVariants as exchanges
+use Rattle.tq_txn.specs.declared.txn.Txn.TheVariants as states
 use Rattle.tq_txn.proofs.EndLaws.{Untold}
 
 -- the desk is not asked

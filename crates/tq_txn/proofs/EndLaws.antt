@@ -1,37 +1,25 @@
 -- How an abort ends. A transaction that gathers votes loses none of them. What the desk's answer makes of a
 -- transaction, and where it was told how the transaction ended.
 use Rattle.std.proofs.Common.{◌≡◌, ℕ, List, ◌++◌, Option, Some, Result, Ok, Err, refl, sym, subst, ◌==◌, arith, suc, Bool, true, false, cond, [], ◌∷◌, None, nat_lt, ◌∙◌, ◌||◌, is_some, ap, append-nil}
-use Rattle.tq_shape.specs.Tree.{Server}
+use Rattle.std.proofs.lemmas.List.Elements.{All-nil, All-cons, All-weaker, All-contains, All-contains_itself}
+use Rattle.std.proofs.{Math.Bool.or-false, lemmas.Bool.eq-eqb, lemmas.List.Folds.list_any-append}
+use Rattle.tq_shape.specs.{Tree.Server, declared.fault.AskFault.AskFault}
 use Rattle.tq_coterie.specs.Coterie.{numbers_of}
-use Rattle.tq_shape.specs.declared.fault.AskFault.{AskFault}
 use Rattle.tq_desk.specs.declared.ask.DeskAsk.TheVariants as asks
-use Rattle.tq_txn_states.specs.declared.told.DeskTold.{DeskTold}
-use Rattle.tq_txn.specs.declared.asker.Exchange.{Exchange}
-use Rattle.tq_txn.specs.declared.fault.LineFault.{LineFault}
-use Rattle.tq_txn.specs.declared.txn.Txn.{Txn}
-use Rattle.tq_txn.specs.declared.txn.Txn.TheVariants as states
-use Rattle.tq_txn.specs.Commits.{txn_after_resolve, ending_of, abort_end, abort_line, resolved_by}
+use Rattle.tq_txn_states.specs.{declared.told.DeskTold.DeskTold, declared.told.NodeTold.NodeTold, Open.{put, OpenView}}
 use Rattle.tq_txn_states.specs.Ended.{EndedView, verdict_in, verdict_by, commit_verdict}
+use Rattle.tq_txn_states.specs.Voting.{VotingView, IsVotedOn, has_vote, with_vote, txn_after_vote, voted_by, vote_after, evidence_of}
+use Rattle.tq_txn.specs.declared.{asker.Exchange.Exchange, fault.LineFault.LineFault, txn.Txn.Txn}
+use Rattle.tq_txn.specs.{Commits.{txn_after_resolve, ending_of, abort_end, abort_line, resolved_by}, Lines.ending_line}
 use Rattle.tq_txn.specs.Dialogue.{LineEnd, Follows, line_done, ended_by, fault_of_ask, desk_exchange, desk_line}
-use Rattle.tq_txn.specs.Lines.{ending_line}
 use Rattle.tq_txn.specs.Told.{number_of, IsEndOf, IsGathered, IsStill, IsAnswered, is_ended, tells_end, EndsWhereTold}
+use Rattle.tq_txn.specs.declared.txn.Txn.TheVariants as states
 use Rattle.tq_txn.proofs.LineLaws.{follows_end, follows_on, follows_off, told_desk, refused_desk, further}
 use Rattle.std.specs.List.{All, Contains, list_any}
-use Rattle.std.proofs.lemmas.List.Elements.{All-nil, All-cons, All-weaker, All-contains, All-contains_itself}
 use Rattle.tq_evidence.specs.declared.vote.Vote.{Vote}
-use Rattle.tq_asks.specs.declared.ask.NodeAsk.{NodeAsk}
-use Rattle.tq_asks.specs.declared.ask.NodeAsk.TheVariants.{Work}
-use Rattle.tq_asks.specs.declared.ask.NodeReply.{NodeReply}
-use Rattle.tq_asks.specs.declared.ask.NodeReply.TheVariants.{Yes}
-use Rattle.tq_asks.specs.declared.ask.WorkAsk.TheVariants.{Prepare}
-use Rattle.tq_txn_states.specs.declared.told.NodeTold.{NodeTold}
-use Rattle.tq_txn_states.specs.Open.{put, OpenView}
-use Rattle.tq_txn_states.specs.Voting.{VotingView, IsVotedOn, has_vote, with_vote, txn_after_vote, voted_by, vote_after, evidence_of}
-use Rattle.std.proofs.Math.Bool.{or-false}
-use Rattle.std.proofs.lemmas.Bool.{eq-eqb}
-use Rattle.std.proofs.lemmas.List.Folds.{list_any-append}
+use Rattle.tq_asks.specs.declared.ask.{NodeAsk.NodeAsk, NodeAsk.TheVariants.Work, NodeReply.NodeReply, Verdict.Verdict}
+use Rattle.tq_asks.specs.declared.ask.{NodeReply.TheVariants.Yes, WorkAsk.TheVariants.Prepare}
 use Rattle.tq_shape.specs.declared.fault.AskFault.TheVariants as ask_faults
-use Rattle.tq_asks.specs.declared.ask.Verdict.{Verdict}
 use Rattle.tq_desk.specs.declared.ask.DeskAsk.{DeskAsk}
 
 module _ (ended : EndedView) (ids : List Server) (numbers : numbers_of ids ≡ ended.servers) (told after : List Exchange) where

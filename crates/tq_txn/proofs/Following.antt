@@ -1,25 +1,19 @@
 -- Parts of a dialogue after one another, whatever each ends with.
 use Rattle.std.proofs.Common.{◌≡◌, ℕ, Bool, true, false, cond, List, ◌∷◌, Option, Some, None, Result, Ok, Err, sym, ap, ◌∙◌, subst, ◌+◌, ◌<◌, ◌≤◌, length, get_or, drop, arith}
-use Rattle.tq_shape.specs.Limits.{LimitsView}
-use Rattle.tq_shape.specs.Journal.{is_empty}
-use Rattle.tq_txn_states.specs.Open.{OpenView, close_fault}
-use Rattle.tq_txn_states.specs.Voting.{VotingView, voting_of}
-use Rattle.tq_txn_states.specs.declared.fault.TxnFault.{TxnFault}
-use Rattle.tq_txn_states.specs.declared.fault.TxnFault.TheVariants.{NoOps}
-use Rattle.tq_txn.specs.declared.txn.Txn.TheVariants as states
-use Rattle.tq_txn.specs.declared.asker.Exchange.{Exchange}
-use Rattle.tq_shape.specs.declared.fault.AskFault.{AskFault}
-use Rattle.tq_shape.specs.declared.fault.AskFault.TheVariants as ask_faults
-use Rattle.tq_txn.specs.declared.asker.ViewTold.{ViewTold}
-use Rattle.tq_txn.specs.declared.fault.LineFault.{LineFault}
-use Rattle.tq_txn.specs.declared.fault.LineFault.TheVariants as faults
-use Rattle.tq_txn.specs.Dialogue.{Dialogue, Ends, Follows, LineEnd, then_line, ended_by, line_result}
-use Rattle.tq_txn.proofs.LineLaws.{begins_then, follows_end, follows_then}
 use Rattle.std.proofs.lemmas.List.{drop_more, at_drop_all}
+use Rattle.tq_shape.specs.{Limits.LimitsView, Journal.is_empty, declared.fault.AskFault.AskFault}
 use Rattle.tq_shape.specs.Tree.{Server, IsServer}
+use Rattle.tq_txn_states.specs.{Open.{OpenView, close_fault}, Voting.{VotingView, voting_of}}
+use Rattle.tq_txn_states.specs.declared.fault.{TxnFault.TxnFault, TxnFault.TheVariants.NoOps}
+use Rattle.tq_txn.specs.declared.txn.Txn.TheVariants as states
+use Rattle.tq_txn.specs.declared.{asker.Exchange.Exchange, asker.ViewTold.ViewTold, fault.LineFault.LineFault}
+use Rattle.tq_txn.specs.Dialogue.{Dialogue, Ends, Follows, LineEnd, then_line, ended_by, line_result}
+use Rattle.tq_txn.specs.Script.{closing, commit_asked, given_up, is_answered, line_asked, mark_asked, script_asked, server_marked, view_wait, voting_asked, was_answered}
+use Rattle.tq_shape.specs.declared.fault.AskFault.TheVariants as ask_faults
+use Rattle.tq_txn.specs.declared.fault.LineFault.TheVariants as faults
+use Rattle.tq_txn.proofs.LineLaws.{begins_then, follows_end, follows_then}
 use Rattle.tq_live.specs.View.{is_server}
 use Rattle.tq_syntax.specs.declared.script.Line.{Line}
-use Rattle.tq_txn.specs.Script.{closing, commit_asked, given_up, is_answered, line_asked, mark_asked, script_asked, server_marked, view_wait, voting_asked, was_answered}
 
 -- memory ran out in the first part
 pub follows_cut : {A B : Type 0} (line : Dialogue A) (next : A → Dialogue B) (old new : List Exchange) → Follows line old new None → Follows (then_line line next) old new None

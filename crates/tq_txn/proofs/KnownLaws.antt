@@ -1,28 +1,22 @@
 -- What a transaction has of what was told, as more is told. What a transaction knows, as more is told; and what the
 -- desk is asked of it.
 use Rattle.std.proofs.Common.{◌≡◌, List, [], ◌∷◌, ◌++◌, Option, Some, None, Ok, refl, sym, ap, ◌∙◌, subst, ℕ, Result, Err, append_assoc, append-nil}
-use Rattle.std.specs.List.{Contains, All}
-use Rattle.std.specs.Option.{IfSome}
 use Rattle.std.proofs.lemmas.List.Elements.{Contains-append_left, Contains-append_right, Contains-push, All-nil, All-append, All-push, All-weaker, All-contains, All-contains_itself, filter_map-append}
+use Rattle.std.specs.{List.{Contains, All}, Option.IfSome}
 use Rattle.tq_desk.specs.declared.ask.DeskAsk.{DeskAsk}
-use Rattle.tq_txn_states.specs.declared.told.DeskTold.{DeskTold}
-use Rattle.tq_txn_states.specs.Ended.{EndedView, verdict_in, verdict_by}
+use Rattle.tq_txn_states.specs.{declared.told.DeskTold.DeskTold, Ended.{EndedView, verdict_in, verdict_by}}
 use Rattle.tq_txn_states.specs.Voting.{VotingView, grant_told, vote_told, IsOpTold, IsVoteTold, CitesOnly, KeepsOnly, VotesOnly}
-use Rattle.tq_txn.specs.declared.asker.Exchange.{Exchange}
-use Rattle.tq_txn.specs.declared.asker.Exchange.TheVariants as exchanges
-use Rattle.tq_txn.specs.declared.txn.Txn.{Txn}
-use Rattle.tq_txn.specs.declared.txn.Txn.TheVariants as states
+use Rattle.tq_txn_states.specs.{declared.told.NodeTold.NodeTold, Open.{OpenView, IsTouched}}
+use Rattle.tq_txn.specs.declared.{asker.Exchange.Exchange, txn.Txn.Txn}
 use Rattle.tq_txn.specs.Dialogue.{Dialogue, Follows, desk_exchange, node_exchange}
 use Rattle.tq_txn.specs.Told.{Grown, IsEndTold, EndsAsTold, IsAnswered, answer_in, answers_in, AreTold, IsOpenIn, Knows, CitesTold, CitesSince}
+use Rattle.tq_txn.specs.declared.asker.Exchange.TheVariants as exchanges
+use Rattle.tq_txn.specs.declared.txn.Txn.TheVariants as states
 use Rattle.tq_txn.proofs.LineLaws.{further}
 use Rattle.tq_asks.specs.declared.ask.NodeAsk.{NodeAsk}
 use Rattle.tq_shape.specs.declared.fault.AskFault.{AskFault}
 use Rattle.tq_shape.specs.declared.fault.AskFault.TheVariants as ask_faults
-use Rattle.tq_evidence.specs.declared.grant.Grant.{Grant}
-use Rattle.tq_evidence.specs.declared.op.Op.{Op}
-use Rattle.tq_evidence.specs.declared.vote.Vote.{Vote}
-use Rattle.tq_txn_states.specs.declared.told.NodeTold.{NodeTold}
-use Rattle.tq_txn_states.specs.Open.{OpenView, IsTouched}
+use Rattle.tq_evidence.specs.declared.{grant.Grant.Grant, op.Op.Op, vote.Vote.Vote}
 
 pub grown_along : {A : Type 0} (line : Dialogue A) (old new : List Exchange) (end : Option A) → Follows line old new end → Grown old new
 grown_along line old new None follows = (follows.0, follows.1)

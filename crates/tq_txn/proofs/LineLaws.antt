@@ -2,42 +2,29 @@
 -- stops.
 use Rattle.std.proofs.Common.{◌≡◌, ◌<◌, ℕ, Bool, false, List, [], ◌∷◌, ◌++◌, Option, Some, None, Result, Ok, Err, refl, sym, ap, ◌∙◌, subst, inl, inr, append_assoc, append-nil, ◌+◌, suc, length, drop, get_or, arith}
 use Rattle.std.proofs.Math.Seq.{drop-cons}
-use Rattle.tq_asks.specs.declared.ask.NodeAsk.{NodeAsk}
-use Rattle.tq_asks.specs.declared.ask.NodeReply.{NodeReply}
-use Rattle.tq_desk.specs.declared.ask.DeskAsk.{DeskAsk}
-use Rattle.tq_desk.specs.declared.ask.DeskReply.{DeskReply}
-use Rattle.tq_live.specs.declared.purpose.Purpose.{Purpose}
-use Rattle.tq_live.specs.declared.view.ViewAsk.{ViewAsk}
-use Rattle.tq_live.specs.declared.view.ViewReply.{ViewReply}
-use Rattle.std.specs.Prelude.{IfOk, OnErr}
-use Rattle.std.specs.Option.{option_map}
-use Rattle.std.specs.Result.{result_ok}
-use Rattle.tq_shape.specs.declared.fault.AskFault.{AskFault}
+use Rattle.tq_asks.specs.declared.ask.{NodeAsk.NodeAsk, NodeReply.NodeReply, NodeAsk.TheVariants.CrashIn}
+use Rattle.tq_asks.specs.declared.ask.WorkAsk.{WorkAsk}
+use Rattle.tq_desk.specs.declared.ask.{DeskAsk.DeskAsk, DeskReply.DeskReply}
+use Rattle.tq_live.specs.declared.{purpose.Purpose.Purpose, view.ViewAsk.ViewAsk, view.ViewReply.ViewReply}
+use Rattle.std.specs.{Prelude.{IfOk, OnErr}, Option.option_map, Result.result_ok}
+use Rattle.tq_shape.specs.{declared.fault.AskFault.AskFault, Tree.Server}
 use Rattle.tq_shape.specs.declared.fault.AskFault.TheVariants as ask_faults
-use Rattle.tq_txn.specs.declared.asker.Exchange.{Exchange}
-use Rattle.tq_txn.specs.declared.asker.Exchange.TheVariants as exchanges
-use Rattle.tq_txn.specs.declared.asker.ViewTold.{ViewTold}
-use Rattle.tq_txn.specs.declared.fault.LineFault.{LineFault}
-use Rattle.tq_txn.specs.declared.fault.LineFault.TheVariants as faults
-use Rattle.tq_txn_states.specs.declared.fault.TxnFault.{TxnFault}
-use Rattle.tq_txn_states.specs.declared.fault.TxnFault.TheVariants as txn_faults
-use Rattle.tq_txn_states.specs.declared.told.DeskTold.{DeskTold}
-use Rattle.tq_txn_states.specs.declared.told.NodeTold.{NodeTold}
-use Rattle.tq_locks.specs.declared.mode.Mode.{Mode}
-use Rattle.tq_shape.specs.Tree.{Server}
-use Rattle.tq_coterie.specs.Coterie.{numbers_of}
-use Rattle.tq_txn_states.specs.Ended.{EndedView, decide_ask}
+use Rattle.tq_txn.specs.declared.{asker.Exchange.Exchange, asker.ViewTold.ViewTold, fault.LineFault.LineFault}
 use Rattle.tq_txn.specs.Lines.{LocksView, purpose_of, choose_line, next_lock, locks_line, quorum_line, read_end, quorum_read, read_line, write_end, quorum_write, write_line, refusal_in, vote_answer, prepare_line, any_answer, any_line, is_nothing_here, release_line, end_line, ending_line, down_line, stop_line, prepare_stop_line}
+use Rattle.tq_txn.specs.declared.txn.{ReadAnswer.ReadAnswer, ReadAnswer.TheVariants.Copy}
+use Rattle.tq_txn.specs.Dialogue.{Told, Dialogue, Ends, AsksNode, AsksDesk, AsksView, Makes, Begins, Follows, then_line, LineEnd, line_done, go_on, and_then, unless, ended_by, fault_of_ask, fault_of_txn, line_result, node_exchange, desk_exchange, view_exchange, node_line, desk_line, view_line}
+use Rattle.tq_txn.specs.declared.asker.Exchange.TheVariants as exchanges
+use Rattle.tq_txn.specs.declared.fault.LineFault.TheVariants as faults
+use Rattle.tq_txn_states.specs.declared.{fault.TxnFault.TxnFault, told.DeskTold.DeskTold, told.NodeTold.NodeTold}
+use Rattle.tq_txn_states.specs.Ended.{EndedView, decide_ask}
+use Rattle.tq_txn_states.specs.Voting.{VotingView, has_vote, ask_fault, prepare_ask, vote_fault, vote_after, prepare_work}
+use Rattle.tq_txn_states.specs.Open.{OpenView, ComesOf, has_all_ops, pending_content, op_read, op_written, read_fault, read_copy, read_after, write_fault, write_after, grants_of}
+use Rattle.tq_txn_states.specs.declared.fault.TxnFault.TheVariants as txn_faults
+use Rattle.tq_locks.specs.declared.mode.Mode.{Mode}
+use Rattle.tq_coterie.specs.Coterie.{numbers_of}
 use Rattle.tq_store.specs.declared.copies.FileCopy.{FileCopy}
 use Rattle.tq_evidence.specs.declared.op.OpKind.TheVariants as kinds
 use Rattle.tq_evidence.specs.Evidence.{greatest}
-use Rattle.tq_txn.specs.declared.txn.ReadAnswer.{ReadAnswer}
-use Rattle.tq_txn.specs.declared.txn.ReadAnswer.TheVariants.{Copy}
-use Rattle.tq_txn_states.specs.Voting.{VotingView, has_vote, ask_fault, prepare_ask, vote_fault, vote_after, prepare_work}
-use Rattle.tq_txn_states.specs.Open.{OpenView, ComesOf, has_all_ops, pending_content, op_read, op_written, read_fault, read_copy, read_after, write_fault, write_after, grants_of}
-use Rattle.tq_txn.specs.Dialogue.{Told, Dialogue, Ends, AsksNode, AsksDesk, AsksView, Makes, Begins, Follows, then_line, LineEnd, line_done, go_on, and_then, unless, ended_by, fault_of_ask, fault_of_txn, line_result, node_exchange, desk_exchange, view_exchange, node_line, desk_line, view_line}
-use Rattle.tq_asks.specs.declared.ask.NodeAsk.TheVariants.{CrashIn}
-use Rattle.tq_asks.specs.declared.ask.WorkAsk.{WorkAsk}
 
 begins_none : {A : Type 0} (line : Dialogue A) → Begins line []
 begins_none (Ends a) = refl

@@ -1,36 +1,24 @@
 -- Locks at the servers of a quorum, kept as the grants that their answers tell of. Locks at servers one after another.
 use Rattle.std.proofs.Common.{◌≡◌, ◌∙◌, ℕ, Bool, true, false, not, ◌&&◌, ◌||◌, cond, List, [], ◌∷◌, ◌++◌, Option, Some, None, Result, Ok, Err, refl, sym, ap, subst, append_assoc, append-nil}
-use Rattle.std.specs.List.{Contains, find, list_any}
-use Rattle.std.specs.Prelude.{IfOk, OnOk}
-use Rattle.std.proofs.lemmas.Bool.{and_from}
-use Rattle.std.proofs.lemmas.List.{map-append}
-use Rattle.std.proofs.lemmas.List.Elements.{All-head, All-tail, All-push}
+use Rattle.std.proofs.lemmas.{Bool.and_from, List.map-append, List.Elements.{All-head, All-tail, All-push}}
+use Rattle.std.specs.{List.{Contains, find, list_any}, Prelude.{IfOk, OnOk}}
 use Rattle.tq_shape.proofs.Options.{map-none}
 use Rattle.tq_shape.specs.Tree.{Server}
 use Rattle.tq_store.specs.Names.{same_name}
-use Rattle.tq_locks.specs.Locks.{is_exclusive}
-use Rattle.tq_locks.specs.declared.mode.Mode.{Mode}
-use Rattle.tq_locks.specs.declared.mode.Mode.TheVariants.{Exclusive}
+use Rattle.tq_locks.specs.{Locks.is_exclusive, declared.mode.Mode.Mode, declared.mode.Mode.TheVariants.Exclusive}
 use Rattle.tq_coterie.specs.Coterie.{coterie, is_quorum, numbers_of, IsMemberList}
-use Rattle.tq_asks.specs.declared.ask.NodeAsk.{NodeAsk}
-use Rattle.tq_asks.specs.declared.ask.NodeReply.{NodeReply}
+use Rattle.tq_asks.specs.declared.ask.{NodeAsk.NodeAsk, NodeReply.NodeReply}
 use Rattle.tq_asks.specs.declared.ask.NodeReply.TheVariants as replies
-use Rattle.tq_evidence.specs.declared.grant.Grant.{Grant}
-use Rattle.tq_evidence.specs.declared.op.Op.{Op}
+use Rattle.tq_evidence.specs.declared.{grant.Grant.Grant, op.Op.Op}
 use Rattle.tq_evidence.specs.Evidence.{granters, is_exclusively_granted, is_write, writes_file}
-use Rattle.tq_txn_states.specs.declared.told.NodeTold.{NodeTold}
-use Rattle.tq_txn_states.specs.Voting.{answers_of, grant_told}
+use Rattle.tq_txn_states.specs.{declared.told.NodeTold.NodeTold, Voting.{answers_of, grant_told}}
 use Rattle.tq_txn_states.specs.Open.{OpenView, IsTouched, has_all_ops, is_member, is_read_of, is_used, is_written, pending_content, op_read, touched_by, op_written}
-use Rattle.tq_txn_states.proofs.GoodGrants.{a_member, rise_too}
-use Rattle.tq_txn.specs.declared.asker.Exchange.{Exchange}
-use Rattle.tq_txn.specs.declared.fault.LineFault.{LineFault}
+use Rattle.tq_txn_states.proofs.{GoodGrants.{a_member, rise_too}, Searched.within-with_number}
+use Rattle.tq_txn.specs.declared.{asker.Exchange.Exchange, fault.LineFault.LineFault, operations.WantedLock.WantedLock}
 use Rattle.tq_txn.specs.Dialogue.{Follows, line_done, ended_by, node_line, Dialogue, LineEnd}
 use Rattle.tq_txn.specs.Lines.{AreOf, LocksView, answers, grant_answer, lock_answer, lock_ask, lock_line, next_lock, IsLocking, IsLockAt, locks_line, locks_of}
-use Rattle.tq_txn.specs.Told.{Grown, answers_in, AreHeard}
+use Rattle.tq_txn.specs.{Told.{Grown, answers_in, AreHeard}, declared.fault.LineFault.TheVariants.Memory}
 use Rattle.tq_txn.proofs.LineLaws.{follows_answer, follows_end, follows_on, follows_memory, follows_off, locks_off, locks_on}
-use Rattle.tq_txn_states.proofs.Searched.{within-with_number}
-use Rattle.tq_txn.specs.declared.fault.LineFault.TheVariants.{Memory}
-use Rattle.tq_txn.specs.declared.operations.WantedLock.{WantedLock}
 use Rattle.tq_txn.proofs.KnownLaws.{told_push, told_same, grown_along}
 
 -- ---- a lock at a server

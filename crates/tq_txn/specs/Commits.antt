@@ -4,19 +4,15 @@ use Rattle.tq_shape.specs.declared.part.Part.TheVariants as parts
 use Rattle.tq_desk.specs.declared.ask.DeskAsk.TheVariants as asks
 use Rattle.tq_desk.specs.declared.ask.DeskReply.{DeskReply}
 use Rattle.tq_desk.specs.declared.ask.DeskReply.TheVariants as replies
-use Rattle.tq_txn.specs.declared.fault.LineFault.{LineFault}
-use Rattle.tq_txn.specs.declared.fault.LineFault.TheVariants as faults
+use Rattle.tq_txn.specs.{declared.fault.LineFault.LineFault, Lines.{answers, ending_line, prepare_line}, Told.number_of}
 use Rattle.tq_txn.specs.Dialogue.{Dialogue, LineEnd, line_done, and_then, desk_line, is_commit, fault_of_desk, line_failed}
-use Rattle.tq_txn.specs.Lines.{answers, ending_line, prepare_line}
-use Rattle.tq_asks.specs.declared.ask.Verdict.{Verdict}
-use Rattle.tq_txn_states.specs.declared.told.DeskTold.{DeskTold}
 use Rattle.tq_txn.specs.declared.txn.Txn.{Txn}
+use Rattle.tq_txn.specs.declared.fault.LineFault.TheVariants as faults
+use Rattle.tq_asks.specs.declared.ask.Verdict.{Verdict}
+use Rattle.tq_txn_states.specs.{declared.told.DeskTold.DeskTold, Ended.{EndedView, verdict_in, ended_with}}
+use Rattle.tq_txn_states.specs.{Open.OpenView, Voting.{VotingView, has_votes, evidence_of}}
 use Rattle.tq_txn.specs.declared.txn.Txn.TheVariants as states
-use Rattle.tq_txn_states.specs.Ended.{EndedView, verdict_in, ended_with}
-use Rattle.tq_txn_states.specs.Open.{OpenView}
-use Rattle.tq_txn.specs.Told.{number_of}
 use Rattle.tq_txn_states.specs.declared.fault.TxnFault.TheVariants as txn_faults
-use Rattle.tq_txn_states.specs.Voting.{VotingView, has_votes, evidence_of}
 
 -- a verdict ends the transaction; with none it is as before
 abbrev pub resolved_by : Txn → OpenView → ℕ → Option Verdict → Txn

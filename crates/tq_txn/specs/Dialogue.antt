@@ -1,27 +1,17 @@
 -- What a line asks and answers: a tree of asks with a branch for each answer, and at its ends what the line answers.
 use Rattle.std.specs.Prelude.{◌≡◌, ◌⊎◌, ℕ, Bool, true, false, List, [], ◌∷◌, ◌++◌, Option, Some, None, Result, Ok, Err}
-use Rattle.tq_asks.specs.declared.ask.NodeAsk.{NodeAsk}
-use Rattle.tq_asks.specs.declared.ask.NodeReply.{NodeReply}
-use Rattle.tq_desk.specs.declared.ask.DeskAsk.{DeskAsk}
-use Rattle.tq_asks.specs.declared.ask.Verdict.{Verdict}
-use Rattle.tq_asks.specs.declared.ask.Verdict.TheVariants as verdicts
-use Rattle.tq_desk.specs.declared.ask.DeskRefusal.{DeskRefusal}
-use Rattle.tq_desk.specs.declared.ask.DeskRefusal.TheVariants.{Decided}
+use Rattle.tq_asks.specs.declared.ask.{NodeAsk.NodeAsk, NodeReply.NodeReply, Verdict.Verdict}
+use Rattle.tq_desk.specs.declared.ask.{DeskAsk.DeskAsk, DeskRefusal.DeskRefusal, DeskRefusal.TheVariants.Decided}
 use Rattle.tq_desk.specs.declared.ask.DeskReply.{DeskReply}
-use Rattle.tq_live.specs.declared.view.ViewAsk.{ViewAsk}
-use Rattle.tq_live.specs.declared.view.ViewReply.{ViewReply}
-use Rattle.tq_shape.specs.declared.fault.AskFault.{AskFault}
+use Rattle.tq_asks.specs.declared.ask.Verdict.TheVariants as verdicts
+use Rattle.tq_live.specs.declared.view.{ViewAsk.ViewAsk, ViewReply.ViewReply}
+use Rattle.tq_shape.specs.declared.{fault.AskFault.AskFault, journaled.Answered.Answered}
 use Rattle.tq_shape.specs.declared.fault.AskFault.TheVariants as ask_faults
-use Rattle.tq_shape.specs.declared.journaled.Answered.{Answered}
-use Rattle.tq_txn.specs.declared.asker.Exchange.{Exchange}
+use Rattle.tq_txn.specs.declared.{asker.Exchange.Exchange, asker.ViewTold.ViewTold, fault.LineFault.LineFault}
 use Rattle.tq_txn.specs.declared.asker.Exchange.TheVariants as exchanges
-use Rattle.tq_txn.specs.declared.asker.ViewTold.{ViewTold}
-use Rattle.tq_txn.specs.declared.fault.LineFault.{LineFault}
 use Rattle.tq_txn.specs.declared.fault.LineFault.TheVariants as faults
-use Rattle.tq_txn_states.specs.declared.fault.TxnFault.{TxnFault}
+use Rattle.tq_txn_states.specs.declared.{fault.TxnFault.TxnFault, told.DeskTold.DeskTold, told.NodeTold.NodeTold}
 use Rattle.tq_txn_states.specs.declared.fault.TxnFault.TheVariants as txn_faults
-use Rattle.tq_txn_states.specs.declared.told.DeskTold.{DeskTold}
-use Rattle.tq_txn_states.specs.declared.told.NodeTold.{NodeTold}
 
 -- what is told of an ask: the part's reply with the number of its entry, or why it was not taken
 abbrev pub Told : Type 0 → Type 0

@@ -1,46 +1,31 @@
 -- The lines of a client: what each asks, in order, each as the answers before demand, and what it answers of them.
 use Rattle.std.specs.Prelude.{◌≡◌, ◌==◌, ◌+◌, ℕ, Bool, true, false, List, [], ◌∷◌, ◌++◌, Option, Some, None, OnOk, Result, Ok, Err, if◌then◌else◌}
-use Rattle.std.specs.Global.{Vec}
-use Rattle.std.specs.List.{All}
+use Rattle.std.specs.{Global.Vec, List.All}
 use Rattle.tq_shape.specs.declared.fault.AskFault.{AskFault}
 use Rattle.tq_shape.specs.declared.fault.AskFault.TheVariants as ask_faults
 use Rattle.tq_shape.specs.declared.part.Part.TheVariants as parts
 use Rattle.tq_store.specs.declared.copies.FileCopy.{FileCopy}
-use Rattle.tq_locks.specs.declared.mode.Mode.{Mode}
-use Rattle.tq_locks.specs.declared.mode.Mode.TheVariants.{Shared, Exclusive}
-use Rattle.tq_asks.specs.declared.ask.NodeAsk.{NodeAsk}
-use Rattle.tq_asks.specs.declared.ask.NodeAsk.TheVariants.{Work, CrashIn}
-use Rattle.tq_asks.specs.declared.ask.NodeRefusal.{NodeRefusal}
-use Rattle.tq_asks.specs.declared.ask.NodeRefusal.TheVariants.{NothingHere}
+use Rattle.tq_locks.specs.declared.mode.{Mode.Mode, Mode.TheVariants.{Shared, Exclusive}}
+use Rattle.tq_asks.specs.declared.ask.{NodeAsk.NodeAsk, NodeAsk.TheVariants.{Work, CrashIn}, NodeRefusal.NodeRefusal}
+use Rattle.tq_asks.specs.declared.ask.{NodeRefusal.TheVariants.NothingHere, NodeReply.NodeReply, Verdict.Verdict}
+use Rattle.tq_asks.specs.declared.ask.{WorkAsk.WorkAsk, WorkAsk.TheVariants.{Lock, Decide, Release}}
 use Rattle.tq_coterie.specs.Coterie.{ServerList}
-use Rattle.tq_asks.specs.declared.ask.NodeReply.{NodeReply}
 use Rattle.tq_asks.specs.declared.ask.NodeReply.TheVariants as replies
-use Rattle.tq_asks.specs.declared.ask.Verdict.{Verdict}
-use Rattle.tq_asks.specs.declared.ask.WorkAsk.{WorkAsk}
-use Rattle.tq_asks.specs.declared.ask.WorkAsk.TheVariants.{Lock, Decide, Release}
-use Rattle.tq_evidence.specs.declared.grant.Grant.{Grant}
-use Rattle.tq_evidence.specs.declared.op.Op.{Op}
+use Rattle.tq_evidence.specs.{declared.grant.Grant.Grant, declared.op.Op.Op, Evidence.{granters, greatest}}
 use Rattle.tq_evidence.specs.declared.op.OpKind.TheVariants as kinds
-use Rattle.tq_evidence.specs.Evidence.{granters, greatest}
-use Rattle.tq_live.specs.declared.purpose.Purpose.{Purpose}
-use Rattle.tq_live.specs.declared.purpose.Purpose.TheVariants as purposes
-use Rattle.tq_live.specs.declared.view.ViewAsk.TheVariants.{Choose, Mark}
+use Rattle.tq_live.specs.declared.{purpose.Purpose.Purpose, view.ViewAsk.TheVariants.{Choose, Mark}}
 use Rattle.tq_live.specs.declared.view.ViewReply.{ViewReply}
+use Rattle.tq_live.specs.declared.purpose.Purpose.TheVariants as purposes
 use Rattle.tq_live.specs.declared.view.ViewReply.TheVariants as view_replies
-use Rattle.tq_txn.specs.declared.fault.LineFault.{LineFault}
-use Rattle.tq_txn.specs.declared.fault.LineFault.TheVariants as faults
-use Rattle.tq_txn_states.specs.declared.fault.TxnFault.TheVariants.{NotAMember, TooManyOps}
-use Rattle.tq_txn_states.specs.declared.told.NodeTold.{NodeTold}
-use Rattle.tq_txn.specs.declared.txn.ReadAnswer.{ReadAnswer}
-use Rattle.tq_txn.specs.declared.txn.ReadAnswer.TheVariants.{Pending, Copy}
-use Rattle.tq_txn.specs.declared.operations.WantedLock.{WantedLock}
-use Rattle.tq_txn.specs.declared.txn.Applied.{Applied}
-use Rattle.tq_txn.specs.declared.txn.Applied.TheVariants.{Installed, Discarded}
-use Rattle.tq_txn_states.specs.Voting.{answers_of, grant_told, VotingView, has_vote, ask_fault, prepare_work, prepare_ask, vote_fault, vote_after}
-use Rattle.tq_txn_states.specs.Ended.{EndedView, decide_ask}
-use Rattle.tq_txn.specs.declared.asker.Exchange.{Exchange}
+use Rattle.tq_txn.specs.declared.{fault.LineFault.LineFault, txn.ReadAnswer.ReadAnswer, txn.Applied.Applied}
+use Rattle.tq_txn.specs.declared.{txn.ReadAnswer.TheVariants.{Pending, Copy}, operations.WantedLock.WantedLock}
+use Rattle.tq_txn.specs.declared.{txn.Applied.TheVariants.{Installed, Discarded}, asker.Exchange.Exchange}
 use Rattle.tq_txn.specs.Dialogue.{Told, Dialogue, LineEnd, Ends, AsksNode, Follows, line_done, ended_by, line_failed, and_then, unless, node_line, view_line}
 use Rattle.tq_txn.specs.Told.{AreHeard}
+use Rattle.tq_txn.specs.declared.fault.LineFault.TheVariants as faults
+use Rattle.tq_txn_states.specs.declared.{fault.TxnFault.TheVariants.{NotAMember, TooManyOps}, told.NodeTold.NodeTold}
+use Rattle.tq_txn_states.specs.Voting.{answers_of, grant_told, VotingView, has_vote, ask_fault, prepare_work, prepare_ask, vote_fault, vote_after}
+use Rattle.tq_txn_states.specs.Ended.{EndedView, decide_ask}
 use Rattle.tq_txn_states.specs.Open.{OpenView, IsTouched, pending_content, op_read, op_written, has_all_ops, read_fault, read_copy, read_after, write_fault, write_after, grants_of, touched_by, txn_after_rewrite}
 
 -- what a function of the answer says ends the line

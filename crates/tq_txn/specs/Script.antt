@@ -1,29 +1,21 @@
 -- What the lines of a client's script ask, in order, each ask as the answers before demand. A client has at most one
 -- transaction at a time. Its commits are two-phase commits, as in Bernstein, Hadzilacos and Goodman 1987.
 use Rattle.std.specs.Prelude.{ℕ, Bool, true, false, cond, List, [], ◌∷◌, Option, Some, None, Result, Ok, Err}
-use Rattle.tq_shape.specs.Limits.{LimitsView}
-use Rattle.tq_shape.specs.Journal.{is_empty}
-use Rattle.tq_shape.specs.declared.fault.AskFault.{AskFault}
+use Rattle.tq_shape.specs.{Limits.LimitsView, Journal.is_empty, declared.fault.AskFault.AskFault}
 use Rattle.tq_shape.specs.declared.fault.AskFault.TheVariants as ask_faults
-use Rattle.tq_asks.specs.declared.ask.NodeAsk.{NodeAsk}
-use Rattle.tq_asks.specs.declared.ask.NodeAsk.TheVariants.{Crash, Return}
+use Rattle.tq_asks.specs.declared.ask.{NodeAsk.NodeAsk, NodeAsk.TheVariants.{Crash, Return}}
 use Rattle.tq_desk.specs.declared.ask.DeskAsk.TheVariants as desk_asks
 use Rattle.tq_desk.specs.declared.ask.DeskReply.{DeskReply}
 use Rattle.tq_desk.specs.declared.ask.DeskReply.TheVariants as replies
-use Rattle.tq_live.specs.View.{is_server}
-use Rattle.tq_live.specs.declared.view.ViewAsk.{ViewAsk}
+use Rattle.tq_live.specs.{View.is_server, declared.view.ViewAsk.ViewAsk}
 use Rattle.tq_live.specs.declared.view.ViewAsk.TheVariants as view_asks
-use Rattle.tq_txn_states.specs.Open.{OpenView, opening_txn}
-use Rattle.tq_txn_states.specs.Voting.{VotingView, voting_of}
-use Rattle.tq_txn.specs.declared.fault.LineFault.{LineFault}
-use Rattle.tq_txn.specs.declared.fault.LineFault.TheVariants as faults
-use Rattle.tq_txn.specs.declared.txn.Txn.{Txn}
-use Rattle.tq_txn.specs.declared.txn.Txn.TheVariants as states
-use Rattle.tq_txn.specs.declared.asker.ViewTold.{ViewTold}
-use Rattle.tq_txn.specs.Dialogue.{Told, Dialogue, LineEnd, Ends, AsksDesk, then_line, view_line}
-use Rattle.tq_txn.specs.Lines.{any_line, read_line, write_line}
-use Rattle.tq_txn.specs.Commits.{commit_line, abort_line}
+use Rattle.tq_txn_states.specs.{Open.{OpenView, opening_txn}, Voting.{VotingView, voting_of}}
 use Rattle.tq_txn_states.specs.declared.told.DeskTold.{DeskTold}
+use Rattle.tq_txn.specs.declared.{fault.LineFault.LineFault, txn.Txn.Txn, asker.ViewTold.ViewTold}
+use Rattle.tq_txn.specs.Dialogue.{Told, Dialogue, LineEnd, Ends, AsksDesk, then_line, view_line}
+use Rattle.tq_txn.specs.{Lines.{any_line, read_line, write_line}, Commits.{commit_line, abort_line}}
+use Rattle.tq_txn.specs.declared.fault.LineFault.TheVariants as faults
+use Rattle.tq_txn.specs.declared.txn.Txn.TheVariants as states
 use Rattle.tq_syntax.specs.declared.script.Line.{Line}
 use Rattle.tq_syntax.specs.declared.script.Line.TheVariants as is
 

@@ -1,19 +1,15 @@
 -- A transaction in any of its states. What the answers that were told tie down of a transaction: how it ended, what it
 -- knows, and what its commit cites.
 use Rattle.std.specs.Prelude.{◌≡◌, ℕ, Bool, true, false, is_some, List, [], ◌∷◌, ◌++◌, Option, Some, None, Ok}
-use Rattle.tq_txn.specs.declared.txn.Txn.{Txn}
-use Rattle.tq_txn.specs.declared.txn.Txn.TheVariants as states
-use Rattle.tq_txn_states.specs.Ended.{EndedView, decide_ask, verdict_by, verdict_in}
-use Rattle.tq_txn_states.specs.Open.{OpenView}
-use Rattle.tq_txn_states.specs.Voting.{VotingView, IsVotedOn, CitesOnly, KeepsOnly, VotesOnly, answers_of}
 use Rattle.std.specs.List.{All, Contains, filter_map, list_any}
+use Rattle.tq_txn.specs.declared.{txn.Txn.Txn, asker.Exchange.Exchange}
+use Rattle.tq_txn.specs.declared.txn.Txn.TheVariants as states
+use Rattle.tq_txn_states.specs.{Ended.{EndedView, decide_ask, verdict_by, verdict_in}, Open.OpenView}
+use Rattle.tq_txn_states.specs.Voting.{VotingView, IsVotedOn, CitesOnly, KeepsOnly, VotesOnly, answers_of}
+use Rattle.tq_txn_states.specs.declared.told.{DeskTold.DeskTold, NodeTold.NodeTold}
 use Rattle.tq_asks.specs.declared.ask.NodeAsk.{NodeAsk}
-use Rattle.tq_desk.specs.declared.ask.DeskAsk.{DeskAsk}
-use Rattle.tq_desk.specs.declared.ask.DeskReply.{DeskReply}
+use Rattle.tq_desk.specs.declared.ask.{DeskAsk.DeskAsk, DeskReply.DeskReply}
 use Rattle.tq_evidence.specs.declared.grant.Grant.{Grant}
-use Rattle.tq_txn_states.specs.declared.told.DeskTold.{DeskTold}
-use Rattle.tq_txn_states.specs.declared.told.NodeTold.{NodeTold}
-use Rattle.tq_txn.specs.declared.asker.Exchange.{Exchange}
 use Rattle.tq_txn.specs.declared.asker.Exchange.TheVariants as exchanges
 
 -- the number that the desk gave it

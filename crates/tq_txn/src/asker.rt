@@ -40,9 +40,8 @@ pub enum Exchange {
 pub trait Asker {
     ghost use Rattle.std.specs.Prelude.{◌≡◌, ◌++◌, ℕ, List, IfOk};
     ghost use Rattle.tq_desk.specs.DeskStep.{HasGoodEvidence};
-    ghost use Rattle.tq_txn.specs.declared.asker.Exchange.{Exchange};
+    ghost use Rattle.tq_txn.specs.{declared.asker.Exchange.Exchange, Told.{IsVerdictTold, answers_in}};
     ghost use Rattle.tq_txn.specs.Dialogue.{node_exchange, desk_exchange, view_exchange};
-    ghost use Rattle.tq_txn.specs.Told.{IsVerdictTold, answers_in};
     ghost use Rattle.tq_txn_states.specs.Voting.{CitesOnly};
 
     /// The asks in their order, each with what was told of it; not those that met want of memory.

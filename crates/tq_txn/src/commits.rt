@@ -2,11 +2,10 @@
 
 ghost use Rattle.std.specs.Prelude.{◌≡◌, Err};
 ghost use Rattle.tq_desk.specs.DeskStep as log;
-ghost use Rattle.tq_txn.specs.Commits.{resolved_by};
+ghost use Rattle.tq_txn.specs.{Commits.resolved_by, Told.{CitesSince, IsEnding, IsKnown, Knows}};
 ghost use Rattle.tq_txn.specs.Commits as spec;
 ghost use Rattle.tq_txn.specs.Dialogue as line;
 ghost use Rattle.tq_txn.specs.Told as states;
-ghost use Rattle.tq_txn.specs.Told.{CitesSince, IsEnding, IsKnown, Knows};
 ghost use Rattle.tq_txn_states.specs.Ended as ending;
 ghost use Rattle.tq_txn_states.specs.Voting.{IsVotedOn, evidence_of};
 

@@ -1,15 +1,12 @@
 //! A vote, a verdict told, and the ending at all servers.
 
-ghost use Rattle.std.specs.Prelude.{◌≡◌, ◌==◌, ◌≤◌, true, false, List, Some, None, Ok, IfOk, OnErr};
-ghost use Rattle.std.specs.List.{list_all};
+ghost use Rattle.std.specs.{Prelude.{◌≡◌, ◌==◌, ◌≤◌, true, false, List, Some, None, Ok, IfOk, OnErr}, List.list_all};
 ghost use Rattle.std.specs.Result.{result_ok};
 ghost use Rattle.tq_coterie.specs.Coterie.{numbers_of};
 ghost use Rattle.tq_txn.specs.Dialogue as line;
 ghost use Rattle.tq_txn.specs.Lines as spec;
-ghost use Rattle.tq_txn.specs.Told.{IsEndTold, IsKnown};
-ghost use Rattle.tq_txn.specs.declared.asker.Exchange.{Exchange};
-ghost use Rattle.tq_txn_states.specs.Voting.{AddsVote, IsVotedOn, has_vote};
-ghost use Rattle.tq_txn_states.specs.Ended.{decide_ask};
+ghost use Rattle.tq_txn.specs.{Told.{IsEndTold, IsKnown}, declared.asker.Exchange.Exchange};
+ghost use Rattle.tq_txn_states.specs.{Voting.{AddsVote, IsVotedOn, has_vote}, Ended.decide_ask};
 
 use crate::{Applied, AskFault, Asker, Ended, LineFault, NodeTold, Txn, Voting};
 use std::alloc::{AllocError, Global};

@@ -1,6 +1,5 @@
 //! The lines that concern no transaction.
-ghost use Rattle.std.specs.Prelude.{◌≡◌};
-ghost use Rattle.std.specs.Result.{result_ok};
+ghost use Rattle.std.specs.{Prelude.◌≡◌, Result.result_ok};
 ghost use Rattle.tq_txn.specs.Dialogue.{Follows, ended_by, line_result};
 ghost use Rattle.tq_txn.specs.Script as spec;
 

@@ -5,8 +5,7 @@ ghost use Rattle.std.specs.Prelude.{◌≡◌, ◌==◌, ◌+◌, ◌<◌, ◌�
 ghost use Rattle.tq_coterie.specs.Coterie.{numbers_of};
 ghost use Rattle.tq_txn.specs.Dialogue as line;
 ghost use Rattle.tq_txn.specs.Lines as spec;
-ghost use Rattle.tq_txn.specs.Lines.{IsLocking};
-ghost use Rattle.tq_txn.specs.Told.{AreHeard, IsKnown, answers_in};
+ghost use Rattle.tq_txn.specs.{Lines.IsLocking, Told.{AreHeard, IsKnown, answers_in}};
 ghost use Rattle.tq_txn_states.specs.Voting.{grant_told};
 ghost use Rattle.tq_txn_states.specs.Open as open_spec;
 

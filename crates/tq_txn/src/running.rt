@@ -1,9 +1,7 @@
 //! A client's script, line by line.
 
-ghost use Rattle.std.specs.Prelude.{◌≡◌, None, IfSome, IfOk};
-ghost use Rattle.std.specs.Result.{result_ok};
-ghost use Rattle.tq_txn.specs.Dialogue.{Follows};
-ghost use Rattle.tq_txn.specs.Told.{IsOpenIn};
+ghost use Rattle.std.specs.{Prelude.{◌≡◌, None, IfSome, IfOk}, Result.result_ok};
+ghost use Rattle.tq_txn.specs.{Dialogue.Follows, Told.IsOpenIn};
 ghost use Rattle.tq_txn.specs.Script as spec;
 
 use crate::operating::{ask_view, mark};

@@ -1,9 +1,6 @@
 //! The lines of a client's transaction.
-ghost use Rattle.std.specs.Prelude.{◌≡◌, List, None, IfSome, IfOk};
-ghost use Rattle.std.specs.Result.{result_ok};
-ghost use Rattle.tq_txn.specs.Dialogue.{Follows};
-ghost use Rattle.tq_txn.specs.Told.{IsOpenIn, Knows, levels_of};
-ghost use Rattle.tq_txn.specs.declared.asker.Exchange.{Exchange};
+ghost use Rattle.std.specs.{Prelude.{◌≡◌, List, None, IfSome, IfOk}, Result.result_ok};
+ghost use Rattle.tq_txn.specs.{Dialogue.Follows, Told.{IsOpenIn, Knows, levels_of}, declared.asker.Exchange.Exchange};
 ghost use Rattle.tq_txn.specs.Script as spec;
 
 use crate::{

@@ -1,29 +1,18 @@
 -- What is kept stands among what was told, from one answer to the next.
 use Rattle.std.proofs.Common.{◌≡◌, ◌==◌, ℕ, Bool, true, false, ◌&&◌, cond, List, [], ◌∷◌, ◌++◌, nat_lt, Some, None, refl, sym, ap, ◌∙◌, subst}
-use Rattle.std.specs.Cmp.Lexicographic.{same_text}
-use Rattle.std.specs.List.{All, Contains, cons_option}
-use Rattle.std.specs.Option.{unwrap_or}
 use Rattle.std.proofs.lemmas.Bool.{and_parts, eqb-true}
 use Rattle.std.proofs.lemmas.List.Elements.{All-cons, All-head, All-nil, All-tail, All-weaker, Contains-append_left, Contains-append_right, Contains-push}
-use Rattle.std.specs.Ordering.{is_lt}
-use Rattle.tq_store.specs.Copies.{name_cmp}
-use Rattle.tq_store.specs.declared.write.Write.{Write}
-use Rattle.tq_asks.specs.declared.ask.NodeAsk.{NodeAsk}
-use Rattle.tq_asks.specs.declared.ask.NodeAsk.TheVariants.{Work}
-use Rattle.tq_asks.specs.declared.ask.NodeReply.{NodeReply}
-use Rattle.tq_asks.specs.declared.ask.NodeReply.TheVariants.{Granted, Yes}
-use Rattle.tq_asks.specs.declared.ask.WorkAsk.TheVariants.{Lock, Prepare}
+use Rattle.std.specs.{Cmp.Lexicographic.same_text, List.{All, Contains, cons_option}, Option.unwrap_or, Ordering.is_lt}
+use Rattle.tq_store.specs.{Copies.name_cmp, declared.write.Write.Write, Names.same_name}
+use Rattle.tq_asks.specs.declared.ask.{NodeAsk.NodeAsk, NodeAsk.TheVariants.Work, NodeReply.NodeReply}
+use Rattle.tq_asks.specs.declared.ask.{NodeReply.TheVariants.{Granted, Yes}, WorkAsk.TheVariants.{Lock, Prepare}}
 use Rattle.tq_desk.specs.declared.ask.DeskAsk.TheVariants.{Commit}
-use Rattle.tq_evidence.specs.declared.grant.Grant.{Grant}
-use Rattle.tq_evidence.specs.declared.op.Op.{Op}
-use Rattle.tq_evidence.specs.declared.op.OpKind.{OpKind}
+use Rattle.tq_evidence.specs.declared.{grant.Grant.Grant, op.Op.Op, op.OpKind.OpKind, vote.Vote.Vote}
+use Rattle.tq_evidence.specs.Evidence.{writes_file}
 use Rattle.tq_evidence.specs.declared.op.OpKind.TheVariants as kinds
-use Rattle.tq_evidence.specs.declared.vote.Vote.{Vote}
-use Rattle.tq_store.specs.Names.{same_name}
 use Rattle.tq_txn_states.specs.declared.told.NodeTold.{NodeTold}
 use Rattle.tq_txn_states.specs.Voting.{grant_told, answers_of, vote_told, AddsOnly, AddsVote, CitesOnly, IsOpTold, IsVoteTold, KeepsOnly, VotesOnly, VotingView, voted_by, vote_of, with_vote, voting_of, evidence_of, has_vote, is_of_server, txn_after_vote, vote_after}
 use Rattle.tq_txn_states.specs.Open.{OpenView, fits, granted_by, grant_of, grants_of, txn_after_op, txn_after_rewrite, put, with_first_changed}
-use Rattle.tq_evidence.specs.Evidence.{writes_file}
 use Rattle.tq_txn_states.proofs.GoodGrants.{any_fit, grants_again}
 
 -- ---- lists

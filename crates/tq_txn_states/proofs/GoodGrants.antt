@@ -1,35 +1,23 @@
 -- What a test of the coterie says of a list of servers. The answers that told of grants, and what an operation by them
 -- is refused for. What a list of grants shows of the operation that rests on it.
 use Rattle.std.proofs.Common.{◌≡◌, ◌==◌, ℕ, ◌-◌, ◌<◌, ◌≤◌, length, get_or, arith, true, false, ◌&&◌, List, [], ◌∷◌, refl, sym, ap, ◌∙◌, subst, not, cond, Some, None, is_none, ◌+◌, Bool, ◌||◌, Option, max, fold, inl, inr, ◌⊎◌}
-use Rattle.std.specs.List.{Contains, list_all, find, cons_option, list_any}
 use Rattle.std.proofs.lemmas.Bool.{false≢true, and_from, and_parts, and_right, eq-eqb, or_left, or_right, cases_lt}
-use Rattle.tq_coterie.specs.Coterie.{coterie, is_quorum, servers_of, numbers_of, IsMemberList}
-use Rattle.tq_shape.specs.Tree.{Server, IsServer}
-use Rattle.tq_evidence.specs.Evidence.{rises, granters, is_exclusively_granted, greatest, newest, has_version}
-use Rattle.tq_evidence.specs.declared.grant.Grant.{Grant}
-use Rattle.std.proofs.lemmas.List.{get_or-map, length-map}
-use Rattle.tq_coterie.proofs.Members.{members-meet}
-use Rattle.tq_coterie.proofs.Marked.{tested}
-use Rattle.tq_coterie.proofs.Parts.{Ascends-member, member-servers}
+use Rattle.std.proofs.lemmas.{List.{get_or-map, length-map}, Map.Views.Contains-from_any}
+use Rattle.std.specs.{List.{Contains, list_all, find, cons_option, list_any}, Option.option_map}
 use Rattle.std.specs.Cmp.Lexicographic.{same_text, nat_list_eq_equiv}
-use Rattle.std.proofs.lemmas.Map.Views.{Contains-from_any}
+use Rattle.tq_coterie.specs.Coterie.{coterie, is_quorum, servers_of, numbers_of, IsMemberList}
+use Rattle.tq_shape.specs.{Tree.{Server, IsServer}, Journal.{refuse, refuse_for, or_else}}
+use Rattle.tq_evidence.specs.Evidence.{rises, granters, is_exclusively_granted, greatest, newest, has_version}
+use Rattle.tq_evidence.specs.declared.{grant.Grant.Grant, op.OpKind.OpKind, op.OpKind.TheVariants.{Read, Write}}
+use Rattle.tq_coterie.proofs.{Members.members-meet, Marked.tested, Parts.{Ascends-member, member-servers}}
 use Rattle.tq_txn_states.proofs.Searched.{rises-ascends}
-use Rattle.std.specs.Option.{option_map}
-use Rattle.tq_shape.specs.Journal.{refuse, refuse_for, or_else}
 use Rattle.tq_store.specs.Names.{same_name}
-use Rattle.tq_evidence.specs.declared.op.OpKind.{OpKind}
-use Rattle.tq_evidence.specs.declared.op.OpKind.TheVariants.{Read, Write}
-use Rattle.tq_txn_states.specs.declared.told.NodeTold.{NodeTold}
+use Rattle.tq_txn_states.specs.{declared.told.NodeTold.NodeTold, Voting.{grant_told, answers_of}}
 use Rattle.tq_txn_states.specs.declared.fault.TxnFault.TheVariants.{AlreadyThere, TooManyOps, NotAGrant, NotAMember}
-use Rattle.tq_txn_states.specs.Voting.{grant_told, answers_of}
 use Rattle.tq_txn_states.specs.Open.{OpenView, fits, grant_of, grants_of, not_a_grant, is_member, is_used, is_written, has_all_ops, grants_fault, read_fault, version_fault, write_fault, IsGoodOp, granted_by, read_op, write_op, copy_in}
-use Rattle.tq_locks.specs.Locks.{is_exclusive}
-use Rattle.tq_locks.specs.declared.mode.Mode.{Mode}
-use Rattle.tq_asks.specs.declared.ask.NodeAsk.{NodeAsk}
-use Rattle.tq_asks.specs.declared.ask.NodeAsk.TheVariants.{Work}
-use Rattle.tq_asks.specs.declared.ask.NodeReply.{NodeReply}
-use Rattle.tq_asks.specs.declared.ask.NodeReply.TheVariants.{Granted}
-use Rattle.tq_asks.specs.declared.ask.WorkAsk.TheVariants.{Lock}
+use Rattle.tq_locks.specs.{Locks.is_exclusive, declared.mode.Mode.Mode}
+use Rattle.tq_asks.specs.declared.ask.{NodeAsk.NodeAsk, NodeAsk.TheVariants.Work, NodeReply.NodeReply}
+use Rattle.tq_asks.specs.declared.ask.{NodeReply.TheVariants.Granted, WorkAsk.TheVariants.Lock}
 
 pub no_member : (levels : ℕ) (numbers : List ℕ) → (Contains (coterie levels) numbers → ⊥) → is_quorum levels numbers ≡ false
 no_member levels numbers none = sym (tested levels numbers false (λ e. absurd (false≢true e), λ h. absurd (none h)))

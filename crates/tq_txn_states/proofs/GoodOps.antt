@@ -1,16 +1,12 @@
 -- An operation put at its place, and what a list of operations keeps.
 use Rattle.std.proofs.Common.{◌≡◌, ℕ, Bool, true, false, not, ◌||◌, ◌&&◌, cond, List, [], ◌∷◌, refl, sym, ap, ◌∙◌, subst}
-use Rattle.std.specs.Cmp.Lexicographic.{nat_list_cmp_total, nat_list_eq_equiv}
-use Rattle.std.specs.FinMap.{slice_cmp-IsAntisymmetric, nat_cmp-IsAntisymmetric}
-use Rattle.std.specs.Ordering.{is_lt, ordering_reverse}
-use Rattle.std.specs.declared.cmp.Ordering.{Ordering}
-use Rattle.std.specs.declared.cmp.Ordering.TheVariants.{Less, Equal, Greater}
 use Rattle.std.proofs.lemmas.Bool.{and_parts, and_from, or_parts, or_left, false≢true}
-use Rattle.tq_store.specs.Copies.{name_cmp}
-use Rattle.tq_evidence.specs.declared.grant.Grant.{Grant}
-use Rattle.tq_evidence.specs.declared.op.Op.{Op}
+use Rattle.std.specs.{Cmp.Lexicographic.{nat_list_cmp_total, nat_list_eq_equiv}, Ordering.{is_lt, ordering_reverse}}
+use Rattle.std.specs.{FinMap.{slice_cmp-IsAntisymmetric, nat_cmp-IsAntisymmetric}, declared.cmp.Ordering.Ordering}
+use Rattle.std.specs.declared.cmp.Ordering.TheVariants.{Less, Equal, Greater}
+use Rattle.tq_store.specs.{Copies.name_cmp, Names.same_name}
+use Rattle.tq_evidence.specs.declared.{grant.Grant.Grant, op.Op.Op}
 use Rattle.tq_evidence.specs.Evidence.{is_write, servers_of, has_server, stands_before, ops_rise, has_quorum, has_exclusive_grants, has_version, writes_file}
-use Rattle.tq_store.specs.Names.{same_name}
 use Rattle.tq_txn_states.specs.Open.{with_numbers, OpenView, IsOpen, IsGoodOp, is_written, is_used, with_op, with_content, txn_after_op, txn_after_rewrite}
 use Rattle.tq_txn_states.proofs.Searched.{has-map, has-with_numbers}
 use Rattle.tq_txn_states.proofs.Puts.{list_all-put, list_any-put, list_all-changed, list_any-changed}

@@ -1,10 +1,8 @@
 -- A value put at its place, and one changed in place.
 use Rattle.std.proofs.Common.{◌≡◌, ℕ, ◌+◌, ◌<◌, ◌≤◌, suc, Bool, true, false, not, ◌||◌, ◌&&◌, cond, List, [], ◌∷◌, ◌++◌, Option, Some, None, IsSome, length, set, get_or, ltb, refl, sym, ap, ◌∙◌, arith, inl, inr}
-use Rattle.std.specs.List.{list_all, list_any, insert, prefix_len, position, find}
-use Rattle.std.specs.Option.{unwrap_or}
-use Rattle.std.proofs.Math.Bool.{or_assoc, or_comm}
+use Rattle.std.proofs.{Math.Bool.{or_assoc, or_comm}, lemmas.List.Sums.prefix_len-le-length}
 use Rattle.std.proofs.lemmas.Bool.{cases_lt, lt-ltb, le-ltb, and_parts, and_from, false≢true}
-use Rattle.std.proofs.lemmas.List.Sums.{prefix_len-le-length}
+use Rattle.std.specs.{List.{list_all, list_any, insert, prefix_len, position, find}, Option.unwrap_or}
 use Rattle.tq_txn_states.specs.Open.{place_before, put, with_first_changed}
 
 unwrapped : (place len : ℕ) → place ≤ len → unwrap_or (cond (ltb place len) (Some place) None) len ≡ place

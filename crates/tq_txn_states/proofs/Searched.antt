@@ -1,22 +1,17 @@
 -- Sets of servers by their numbers. The place that a search by halves finds among values that ascend by their numbers.
 -- Of the grants of an operation, whose servers ascend, one at most is of a server.
 use Rattle.std.proofs.Common.{◌≡◌, ℕ, ◌-◌, ◌<◌, Bool, true, false, ◌&&◌, ◌||◌, ◌==◌, cond, List, [], ◌∷◌, Some, length, take, drop, slice_get, nat_lt, map, refl, sym, ap, ◌∙◌, subst, arith, zero, suc, ◌≤◌, set, get_or, not, Option}
-use Rattle.std.specs.List.{list_all, list_any, insert}
-use Rattle.std.proofs.Math.Bool.{or_assoc, or_comm, or-false, and-true}
+use Rattle.std.proofs.{Math.Bool.{or_assoc, or_comm, or-false, and-true}, lemmas.Bool.Decides.nat_tests}
 use Rattle.std.proofs.lemmas.Bool.{and_parts, and_from, eqb-true, lt-ltb, or_parts, or_right, false≢true, or_left, eq-eqb, le-ltb}
-use Rattle.std.proofs.lemmas.Bool.Decides.{nat_tests}
-use Rattle.tq_shape.specs.ServerSet.{Ascends}
-use Rattle.tq_shape.specs.Tree.{Server}
+use Rattle.std.proofs.lemmas.Option.{none-some}
+use Rattle.std.specs.{List.{list_all, list_any, insert}, List.Sorted.{IsPartitionPoint, IsPartitionedBy}}
+use Rattle.std.specs.Option.{option_map_or}
+use Rattle.tq_shape.specs.{ServerSet.Ascends, Tree.Server}
 use Rattle.tq_coterie.specs.Coterie.{has, numbers_of, with_server, is_quorum}
 use Rattle.tq_coterie.proofs.Sets.{has-with_server}
 use Rattle.tq_evidence.specs.Evidence.{rises, covers, granters, servers_of, has_quorum, are_quorums}
+use Rattle.tq_evidence.specs.declared.{grant.Grant.Grant, op.Op.Op, vote.Vote.Vote}
 use Rattle.tq_txn_states.specs.Open.{IsWithin, put, with_number, with_numbers, with_first_changed, have_order}
-use Rattle.std.specs.List.Sorted.{IsPartitionPoint, IsPartitionedBy}
-use Rattle.std.specs.Option.{option_map_or}
-use Rattle.std.proofs.lemmas.Option.{none-some}
-use Rattle.tq_evidence.specs.declared.grant.Grant.{Grant}
-use Rattle.tq_evidence.specs.declared.op.Op.{Op}
-use Rattle.tq_evidence.specs.declared.vote.Vote.{Vote}
 use Rattle.tq_txn_states.specs.Voting.{covers_grant, is_granter_at}
 
 absorbed : (a b : Bool) → (a ≡ true → b ≡ true) → b ≡ (a || b)

@@ -1,21 +1,15 @@
 -- A transaction that ended, and how.
 use Rattle.std.specs.Prelude.{◌≡◌, ◌==◌, ℕ, List, Option, Some, None, if◌then◌else◌}
-use Rattle.tq_asks.specs.declared.ask.NodeAsk.{NodeAsk}
-use Rattle.tq_asks.specs.declared.ask.NodeAsk.TheVariants.{Work}
-use Rattle.tq_asks.specs.declared.ask.Verdict.{Verdict}
-use Rattle.tq_asks.specs.declared.ask.Verdict.TheVariants as verdicts
+use Rattle.tq_asks.specs.declared.ask.{NodeAsk.NodeAsk, NodeAsk.TheVariants.Work, Verdict.Verdict}
 use Rattle.tq_asks.specs.declared.ask.WorkAsk.TheVariants.{Decide}
-use Rattle.tq_desk.specs.declared.ask.DeskAsk.{DeskAsk}
-use Rattle.tq_desk.specs.declared.ask.DeskAsk.TheVariants.{Begin, Commit, Resolve}
-use Rattle.tq_desk.specs.declared.ask.DeskReply.{DeskReply}
-use Rattle.tq_desk.specs.declared.ask.DeskReply.TheVariants as replies
-use Rattle.tq_desk.specs.declared.ask.DeskRefusal.TheVariants.{Decided}
-use Rattle.tq_evidence.specs.declared.vote.Vote.{Vote}
+use Rattle.tq_asks.specs.declared.ask.Verdict.TheVariants as verdicts
+use Rattle.tq_desk.specs.declared.ask.{DeskAsk.DeskAsk, DeskAsk.TheVariants.{Begin, Commit, Resolve}}
+use Rattle.tq_desk.specs.declared.ask.{DeskReply.DeskReply, DeskRefusal.TheVariants.Decided}
 use Rattle.tq_desk.specs.DeskStep.{cited_votes}
-use Rattle.tq_txn_states.specs.declared.told.DeskTold.{DeskTold}
-use Rattle.tq_txn_states.specs.declared.fault.TxnFault.{TxnFault}
+use Rattle.tq_desk.specs.declared.ask.DeskReply.TheVariants as replies
+use Rattle.tq_evidence.specs.declared.vote.Vote.{Vote}
+use Rattle.tq_txn_states.specs.{declared.told.DeskTold.DeskTold, declared.fault.TxnFault.TxnFault, Open.OpenView}
 use Rattle.tq_txn_states.specs.declared.fault.TxnFault.TheVariants.{NotMyVerdict}
-use Rattle.tq_txn_states.specs.Open.{OpenView}
 
 -- how a transaction ended, the desk's entry that said so, and the servers that granted it a lock, as far as it was handed them
 pub record EndedView : Type 0 where

@@ -2,31 +2,18 @@
 -- ascending lists of their numbers, and a value put at its place. An open transaction: what it has read and written,
 -- and what an answer that it is told makes of it.
 use Rattle.std.specs.Prelude.{ℕ, Bool, List, length, position, ◌≡◌, ◌==◌, ◌≤◌, true, false, [], ◌∷◌, fold, nat_lt, if◌then◌else◌, ◌+◌, ◌^◌, not, ◌&&◌, nat_le, Option, Some, None, is_none}
-use Rattle.std.specs.Option.{unwrap_or, option_map}
-use Rattle.std.specs.List.{list_all, list_any, find, filter_map}
-use Rattle.tq_shape.specs.Tree.{Server}
+use Rattle.std.specs.{Option.{unwrap_or, option_map}, List.{list_all, list_any, find, filter_map}, Ordering.is_lt}
+use Rattle.tq_shape.specs.{Tree.Server, Limits.LimitsView, Journal.{refuse, refuse_for, or_else, is_empty}}
 use Rattle.tq_coterie.specs.Coterie.{has, with_server, numbers_of, is_quorum}
 use Rattle.tq_evidence.specs.Evidence.{rises, is_write, servers_of, greatest, newest, is_server_of, ops_rise, are_quorums, are_exclusive, are_versions, has_quorum, has_exclusive_grants, has_version, writes_file, granters}
-use Rattle.std.specs.Ordering.{is_lt}
-use Rattle.tq_shape.specs.Limits.{LimitsView}
-use Rattle.tq_store.specs.Copies.{name_cmp}
-use Rattle.tq_store.specs.declared.copies.FileCopy.{FileCopy}
-use Rattle.tq_locks.specs.Locks.{is_exclusive}
-use Rattle.tq_locks.specs.declared.mode.Mode.{Mode}
-use Rattle.tq_asks.specs.declared.ask.NodeAsk.{NodeAsk}
-use Rattle.tq_asks.specs.declared.ask.NodeAsk.TheVariants.{Work}
-use Rattle.tq_asks.specs.declared.ask.NodeReply.{NodeReply}
-use Rattle.tq_asks.specs.declared.ask.NodeReply.TheVariants.{Granted}
-use Rattle.tq_asks.specs.declared.ask.WorkAsk.TheVariants.{Lock}
-use Rattle.tq_evidence.specs.declared.grant.Grant.{Grant}
-use Rattle.tq_evidence.specs.declared.op.Op.{Op}
-use Rattle.tq_evidence.specs.declared.op.OpKind.{OpKind}
+use Rattle.tq_evidence.specs.declared.{grant.Grant.Grant, op.Op.Op, op.OpKind.OpKind}
 use Rattle.tq_evidence.specs.declared.op.OpKind.TheVariants.{Read, Write}
-use Rattle.tq_store.specs.Names.{same_name}
-use Rattle.tq_txn_states.specs.declared.told.NodeTold.{NodeTold}
-use Rattle.tq_txn_states.specs.declared.fault.TxnFault.{TxnFault}
+use Rattle.tq_store.specs.{Copies.name_cmp, declared.copies.FileCopy.FileCopy, Names.same_name}
+use Rattle.tq_locks.specs.{Locks.is_exclusive, declared.mode.Mode.Mode}
+use Rattle.tq_asks.specs.declared.ask.{NodeAsk.NodeAsk, NodeAsk.TheVariants.Work, NodeReply.NodeReply}
+use Rattle.tq_asks.specs.declared.ask.{NodeReply.TheVariants.Granted, WorkAsk.TheVariants.Lock}
+use Rattle.tq_txn_states.specs.declared.{told.NodeTold.NodeTold, fault.TxnFault.TxnFault}
 use Rattle.tq_txn_states.specs.declared.fault.TxnFault.TheVariants.{Memory, AlreadyThere, TooManyOps, NotAGrant, NotAMember, VersionFull, NoOps}
-use Rattle.tq_shape.specs.Journal.{refuse, refuse_for, or_else, is_empty}
 
 abbrev pub place_before : {X : Type 0} → (X → Bool) → List X → ℕ
 place_before later xs = unwrap_or (position later xs) (length xs)

@@ -1,23 +1,14 @@
 -- A transaction that gathers votes: each as a voter gave it, once for each voter in the end. What a transaction keeps,
 -- and what its commit cites, stands among the answers that it was told.
 use Rattle.std.specs.Prelude.{◌≡◌, ◌==◌, ℕ, Bool, true, false, not, ◌||◌, nat_lt, List, [], map, filter, slice_get, Option, Some, None, if◌then◌else◌, ◌∷◌, ◌++◌, OnErr, OnOk, Result}
-use Rattle.std.specs.List.{All, Contains, list_any, list_all, find}
-use Rattle.std.specs.Option.{option_map, option_map_or}
+use Rattle.std.specs.{List.{All, Contains, list_any, list_all, find}, Option.{option_map, option_map_or}}
 use Rattle.tq_store.specs.declared.write.Write.{Write}
-use Rattle.tq_asks.specs.declared.ask.NodeAsk.{NodeAsk}
-use Rattle.tq_asks.specs.declared.ask.NodeAsk.TheVariants.{Work}
-use Rattle.tq_asks.specs.declared.ask.NodeReply.{NodeReply}
-use Rattle.tq_asks.specs.declared.ask.NodeReply.TheVariants.{Yes, Granted}
-use Rattle.tq_asks.specs.declared.ask.WorkAsk.{WorkAsk}
-use Rattle.tq_asks.specs.declared.ask.WorkAsk.TheVariants.{Prepare, Lock}
-use Rattle.tq_desk.specs.declared.ask.DeskAsk.{DeskAsk}
-use Rattle.tq_desk.specs.declared.ask.DeskAsk.TheVariants.{Commit, Begin, Resolve}
-use Rattle.tq_evidence.specs.declared.grant.Grant.{Grant}
-use Rattle.tq_evidence.specs.declared.op.Op.{Op}
-use Rattle.tq_evidence.specs.declared.vote.Vote.{Vote}
+use Rattle.tq_asks.specs.declared.ask.{NodeAsk.NodeAsk, NodeAsk.TheVariants.Work, NodeReply.NodeReply, WorkAsk.WorkAsk}
+use Rattle.tq_asks.specs.declared.ask.{NodeReply.TheVariants.{Yes, Granted}, WorkAsk.TheVariants.{Prepare, Lock}}
+use Rattle.tq_desk.specs.declared.ask.{DeskAsk.DeskAsk, DeskAsk.TheVariants.{Commit, Begin, Resolve}}
+use Rattle.tq_evidence.specs.declared.{grant.Grant.Grant, op.Op.Op, vote.Vote.Vote}
 use Rattle.tq_evidence.specs.Evidence.{is_write, has_server, is_server_of, covers, votes_rise, are_of_servers, has_writes, is_some_op}
-use Rattle.tq_txn_states.specs.declared.told.NodeTold.{NodeTold}
-use Rattle.tq_txn_states.specs.declared.fault.TxnFault.{TxnFault}
+use Rattle.tq_txn_states.specs.declared.{told.NodeTold.NodeTold, fault.TxnFault.TxnFault}
 use Rattle.tq_txn_states.specs.declared.fault.TxnFault.TheVariants.{Memory, NotAVoter, NotMyVote, LostLock, VotesMissing}
 use Rattle.tq_txn_states.specs.Open.{OpenView, put, with_first_changed}
 use Rattle.tq_shape.specs.Journal.{refuse, refuse_for}

@@ -1,15 +1,13 @@
 //! A transaction that reads and writes.
 
 ghost use Rattle.std.specs.Prelude.{◌≡◌, ◌+◌, ◌<◌, ◌≤◌, ◌++◌, ℕ, List, [], ◌∷◌, None, Some, true, length, position, IfOk, IfErr, IfSome, IsSome, OnOk, OnErr, OnSome, MatchOption, false, vec_len, vec_capacity};
-ghost use Rattle.std.specs.List.{find};
-ghost use Rattle.std.specs.Option.{option_copied};
-ghost use Rattle.std.specs.Ordering.{is_lt};
+ghost use Rattle.std.specs.{List.find, Option.option_copied, Ordering.is_lt};
 ghost use Rattle.tq_store.specs.Copies.{name_cmp};
 ghost use Rattle.tq_coterie.specs.Coterie.{numbers_of};
 ghost use Rattle.tq_evidence.specs.Evidence as evidence;
 ghost use Rattle.tq_txn_states.specs.Open.{place_before, ComesOf, IsBack, close_fault, grants_fault, read_op, txn_after_op, write_after, write_op};
-ghost use Rattle.tq_txn_states.specs.Open as spec;
 ghost use Rattle.tq_txn_states.specs.Voting.{AddsOnly, KeepsOnly, VotesOnly, answers_of, voting_of};
+ghost use Rattle.tq_txn_states.specs.Open as spec;
 ghost use Rattle.tq_txn_states.specs.Ended as ending;
 
 use crate::ended::verdict_of;

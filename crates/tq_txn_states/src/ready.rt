@@ -3,9 +3,8 @@
 ghost use Rattle.std.specs.Prelude.{◌≡◌, List, IfOk, IfErr, None, true};
 ghost use Rattle.tq_desk.specs.DeskStep as log;
 ghost use Rattle.tq_evidence.specs.Evidence as evidence;
-ghost use Rattle.tq_txn_states.specs.Voting.{CitesOnly, VotesOnly};
+ghost use Rattle.tq_txn_states.specs.{Voting.{CitesOnly, VotesOnly}, Open.{ComesOf, IsBack}};
 ghost use Rattle.tq_txn_states.specs.Ended as ending;
-ghost use Rattle.tq_txn_states.specs.Open.{ComesOf, IsBack};
 ghost use Rattle.tq_txn_states.specs.Voting as spec;
 
 use crate::ended::verdict_of;

@@ -1,9 +1,7 @@
 //! The servers that a transaction has noted.
 
 ghost use Rattle.std.specs.Prelude.{◌≡◌, ◌==◌, ◌+◌, ◌<◌, ◌≤◌, [], true, false, length, nat_lt, slice_get, vec_capacity, vec_len, IfOk, IsTrue, OnOk};
-ghost use Rattle.std.specs.List.{insert, list_all};
-ghost use Rattle.std.specs.List.Sorted.{IsPartitionPoint};
-ghost use Rattle.std.specs.Option.{option_map_or};
+ghost use Rattle.std.specs.{List.{insert, list_all}, List.Sorted.IsPartitionPoint, Option.option_map_or};
 ghost use Rattle.tq_coterie.specs.Coterie.{has, is_quorum, numbers_of};
 ghost use Rattle.tq_evidence.specs.Evidence.{granters, rises};
 ghost use Rattle.tq_txn_states.specs.Open.{IsReady, IsServerSet, with_id, with_number, with_numbers};

@@ -1,8 +1,7 @@
 //! Votes, from the answers that tell of them.
 
 ghost use Rattle.std.specs.Prelude.{◌≡◌, ◌==◌, ◌<◌, ◌≤◌, is_some, length, nat_lt, position, slice_get, true, false, vec_capacity, vec_len, IfOk, IfSome, IsTrue};
-ghost use Rattle.std.specs.List.{list_all, list_any};
-ghost use Rattle.std.specs.List.Sorted.{IsPartitionPoint};
+ghost use Rattle.std.specs.{List.{list_all, list_any}, List.Sorted.IsPartitionPoint};
 ghost use Rattle.std.specs.Option.{option_copied, option_map, option_map_or};
 ghost use Rattle.tq_evidence.specs.Evidence as evidence;
 ghost use Rattle.tq_txn_states.specs.Open as open_spec;

@@ -3,9 +3,8 @@
 ghost use Rattle.std.specs.Prelude.{◌≡◌, ◌≤◌, is_some, true, None, Some, IfOk, IfErr, IfSome, OnOk, OnErr, OnSome};
 ghost use Rattle.tq_coterie.specs.Coterie.{numbers_of};
 ghost use Rattle.tq_evidence.specs.Evidence as evidence;
-ghost use Rattle.tq_txn_states.specs.Voting.{TakesVote, prepare_ask, vote_fault};
+ghost use Rattle.tq_txn_states.specs.{Voting.{TakesVote, prepare_ask, vote_fault}, Open.{ComesOf, HasVoters, IsBack}};
 ghost use Rattle.tq_txn_states.specs.Ended as ending;
-ghost use Rattle.tq_txn_states.specs.Open.{ComesOf, HasVoters, IsBack};
 ghost use Rattle.tq_txn_states.specs.Open as sets;
 ghost use Rattle.tq_txn_states.specs.Voting as spec;
 

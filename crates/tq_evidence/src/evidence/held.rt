@@ -1,8 +1,7 @@
 //! The locks that a vote lists, by file.
 
-ghost use Rattle.std.specs.Prelude.{◌≡◌, IfOk, OnOk};
+ghost use Rattle.std.specs.{Prelude.{◌≡◌, IfOk, OnOk}, Option.option_copied};
 ghost use Rattle.std.specs.FinMap as fin;
-ghost use Rattle.std.specs.Option.{option_copied};
 ghost use Rattle.tq_evidence.specs.Evidence as spec;
 
 use std::alloc::Global;

@@ -22,8 +22,7 @@ pub(crate) struct Listed<'a> {
 }
 
 impl<'a> Model for Listed<'a> {
-    ghost use Rattle.tq_evidence.specs.declared.vote.Vote.{Vote};
-    ghost use Rattle.tq_evidence.specs.Evidence.{IsTableOf};
+    ghost use Rattle.tq_evidence.specs.{declared.vote.Vote.Vote, Evidence.IsTableOf};
 
     ghost Value = { Vote };
 

@@ -1,7 +1,6 @@
 //! Rule 4: each vote's writes are those of the write ops that have its server.
 
-ghost use Rattle.std.specs.Prelude.{◌≡◌, IfOk, filter, map, true};
-ghost use Rattle.std.specs.List.{list_all};
+ghost use Rattle.std.specs.{Prelude.{◌≡◌, IfOk, filter, map, true}, List.list_all};
 ghost use Rattle.tq_evidence.specs.Evidence as spec;
 
 use crate::evidence::servers::finds_server;

@@ -1,10 +1,9 @@
 //! What a server keeps of its subtree, with the count of caches written.
 
 ghost use Rattle.std.specs.Prelude.{◌≡◌, ◌+◌, ◌*◌, ◌^◌, ◌<◌, ◌≤◌, ◌↔◌, IfSome, Some, None, cond, IsTrue};
-ghost use Rattle.tq_live.specs.Subtree.{Over, leaves};
+ghost use Rattle.tq_live.specs.{Subtree.{Over, leaves}, Costs.AreLow};
 ghost use Rattle.tq_live.specs.Kept.{cache_of, column_over, least_kept, form_kept, blocker_weight, IsLight, form_of, subtree_of};
 ghost use Rattle.tq_live.specs.Kept as spec;
-ghost use Rattle.tq_live.specs.Costs.{AreLow};
 
 use crate::costs::Costs;
 use crate::least::SearchFor;

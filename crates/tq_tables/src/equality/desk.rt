@@ -1,7 +1,6 @@
 //! Whether asks of the desk, and its replies, are the same.
 
-ghost use Rattle.std.specs.Prelude.{◌≡◌};
-ghost use Rattle.std.specs.Cmp.Lexicographic.{pointwise};
+ghost use Rattle.std.specs.{Prelude.◌≡◌, Cmp.Lexicographic.pointwise};
 ghost use Rattle.tq_tables.specs.Same as spec;
 
 use crate::equality::same::Same;

@@ -1,5 +1,4 @@
-use Rattle.std.proofs.Common.{[], ◌∙◌}
-use Rattle.std.proofs.lemmas.Str.{IsUtf8-string_bytes}
+use Rattle.std.proofs.{Common.{[], ◌∙◌}, lemmas.Str.IsUtf8-string_bytes}
 use Rattle.tq_board.proofs.Laws.{text-again}
 use Rattle.tq_board.proofs.frame.journals_to_json.Goals as goal
 

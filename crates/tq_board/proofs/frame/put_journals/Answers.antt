@@ -1,8 +1,6 @@
 use Rattle.std.specs.List.{AllByRecursion}
 use Rattle.json.specs.Print.{escape_byte}
-use Rattle.tq_board.specs.Nodes.{node_entry_value}
-use Rattle.tq_board.specs.Sound.{IsNodeEntry}
-use Rattle.tq_board.specs.Values.{list_value}
+use Rattle.tq_board.specs.{Nodes.node_entry_value, Sound.IsNodeEntry, Values.list_value}
 use Rattle.tq_board.proofs.Gathered.{added, all-map, value_items-map}
 use Rattle.tq_board.proofs.frame.put_journals.Goals as goal
 

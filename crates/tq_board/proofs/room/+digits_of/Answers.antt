@@ -1,5 +1,4 @@
-use Rattle.std.proofs.Common.{◌/◌, sym, arith}
-use Rattle.std.proofs.lemmas.Fmt.{length-decimal-le}
+use Rattle.std.proofs.{Common.{◌/◌, sym, arith}, lemmas.Fmt.length-decimal-le}
 use Rattle.itoa.proofs.Decimal.{length_four, length_one, length_pair, length_two}
 use Rattle.tq_board.proofs.room.+digits_of.Goals as goal
 

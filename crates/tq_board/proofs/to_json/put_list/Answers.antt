@@ -1,5 +1,4 @@
-use Rattle.std.proofs.Common.{◌≡◌, [], drop}
-use Rattle.std.proofs.lemmas.List.{drop_all}
+use Rattle.std.proofs.{Common.{◌≡◌, [], drop}, lemmas.List.drop_all}
 use Rattle.tq_board.proofs.Gathered.{added}
 use Rattle.tq_board.proofs.to_json.put_list.Goals as goal
 

@@ -1,8 +1,7 @@
 use Rattle.std.proofs.Common.{false, drop}
 use Rattle.std.specs.List.{AllByRecursion}
 use Rattle.serde_json.specs.Written.{items_text}
-use Rattle.tq_board.specs.Values.{value_items, AreFitting}
-use Rattle.tq_board.specs.Lines.{Added}
+use Rattle.tq_board.specs.{Values.{value_items, AreFitting}, Lines.Added}
 use Rattle.tq_board.proofs.to_json.put_list.Given as goal
 
 -- where the items that are left are put, with the closing bracket, all are; where they fit, all do, and what the type keeps of

@@ -1,6 +1,5 @@
-use Rattle.std.proofs.Common.{◌≡◌, rules}
+use Rattle.std.proofs.{Common.{◌≡◌, rules}, lemmas.Bool.iff_false}
 use Rattle.tq_shape.specs.ServerSet.{servers_of_numbers}
-use Rattle.std.proofs.lemmas.Bool.{iff_false}
 use Rattle.tq_board_text.proofs.Listing.{set_written}
 use Rattle.tq_board_text.proofs.word.push_set.Goals as goal
 

@@ -1,5 +1,4 @@
-use Rattle.std.proofs.Common.{◌/◌, ◌<◌, ◌∷◌, ◌++◌, [], string_bytes, sym, ap, ◌∙◌, arith}
-use Rattle.std.proofs.lemmas.Fmt.{decimal_digit}
+use Rattle.std.proofs.{Common.{◌/◌, ◌<◌, ◌∷◌, ◌++◌, [], string_bytes, sym, ap, ◌∙◌, arith}, lemmas.Fmt.decimal_digit}
 use Rattle.tq_board_text.proofs.Listing.{one_digit, last_digit, spaced_digits}
 use Rattle.tq_board_text.proofs.word.push_spaced.Goals as goal
 

@@ -1,6 +1,5 @@
 use Rattle.std.proofs.Common.{◌≡◌, ◌∙◌, ap}
-use Rattle.clap.specs.Simple.{app_of, app_of_fields}
-use Rattle.clap.specs.declared.builder.command.Command.TheViews.{out-Command}
+use Rattle.clap.specs.{Simple.{app_of, app_of_fields}, declared.builder.command.Command.TheViews.out-Command}
 use Rattle.tq_cli.proofs.command.bare_command.Goals as goal
 
 pub returns-clause-app : goal.returns-clause-app

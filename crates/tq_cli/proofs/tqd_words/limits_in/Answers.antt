@@ -1,5 +1,4 @@
-use Rattle.std.proofs.Common.{◌∙◌, List, Some, drop, sym, ap, subst}
-use Rattle.std.proofs.lemmas.List.{drop-drop}
+use Rattle.std.proofs.{Common.{◌∙◌, List, Some, drop, sym, ap, subst}, lemmas.List.drop-drop}
 use Rattle.clap.specs.Words.{Text, values_left}
 use Rattle.tq_cli.specs.TqdWords.{HasLimit, first_number}
 use Rattle.tq_cli.proofs.tqd_words.limits_in.Goals as goal

@@ -1,8 +1,6 @@
-use Rattle.std.proofs.Common.{refl, ◌≡◌, ◌++◌, [], ◌∙◌, ap, sym, get_or, append-nil}
+use Rattle.std.proofs.{Common.{refl, ◌≡◌, ◌++◌, [], ◌∙◌, ap, sym, get_or, append-nil}, Crossing.crosses}
 use denote.Param.Send.{sendable}
-use Rattle.std.proofs.Crossing.{crosses}
-use Rattle.tq_cluster.specs.declared.clients.Follows.{Follows}
-use Rattle.tq_cluster.specs.Clients.{if_made}
+use Rattle.tq_cluster.specs.{declared.clients.Follows.Follows, Clients.if_made}
 use Rattle.tq_cluster.proofs.Callers.{joined, one_client_more, none_began, one_began_more}
 use Rattle.tq_cluster.proofs.Seen.{caller_send, script_sync, cluster_sync}
 use Rattle.tq_cluster.proofs.clients.+run_all.Goals as goal

@@ -1,5 +1,4 @@
-use Rattle.std.proofs.Common.{◌≡◌, ◌+◌, ◌≤◌, length, arith}
-use Rattle.std.proofs.lemmas.List.{length_push}
+use Rattle.std.proofs.{Common.{◌≡◌, ◌+◌, ◌≤◌, length, arith}, lemmas.List.length_push}
 use Rattle.tq_cluster.proofs.Closing.{journals_more, fit_more}
 use Rattle.tq_cluster.proofs.journals.server_journals.Goals as goal
 

@@ -1,6 +1,5 @@
 use Rattle.std.proofs.Common.{rules}
-use Rattle.tq_live.specs.View.{IsLegalView}
-use Rattle.tq_live.specs.ViewLaws.{replies_of_tree}
+use Rattle.tq_live.specs.{View.IsLegalView, ViewLaws.replies_of_tree}
 use Rattle.tq_cluster.proofs.journals.view_journal.Goals as goal
 
 pub returns-clause-of_tree : goal.returns-clause-of_tree

@@ -1,7 +1,6 @@
 use Rattle.std.proofs.Common.{◌≡◌, drop}
 use Rattle.std.specs.List.{flat_map}
-use Rattle.crossbeam_channel.specs.Claims.{view}
-use Rattle.crossbeam_channel.specs.Ends.{sends_on}
+use Rattle.crossbeam_channel.specs.{Claims.view, Ends.sends_on}
 use Rattle.tq_refresh.specs.Plan.{jobs_in}
 use Rattle.tq_cluster.specs.Rounds.{with_jobs}
 use Rattle.tq_cluster.proofs.rounds.put_jobs.Given as goal

@@ -1,9 +1,7 @@
 use Rattle.std.proofs.Common.{◌≡◌, Some, filter, ap, sym, ◌∙◌, rules}
 use Rattle.crossbeam_channel.specs.Claims.{view}
-use Rattle.tq_shape.specs.ServerSet.{has_number}
-use Rattle.tq_shape.specs.Tree.{Server}
-use Rattle.tq_refresh.specs.declared.job.Job.{Job}
-use Rattle.tq_refresh.specs.Plan.{servers_in, jobs_from}
+use Rattle.tq_shape.specs.{ServerSet.has_number, Tree.Server}
+use Rattle.tq_refresh.specs.{declared.job.Job.Job, Plan.{servers_in, jobs_from}}
 use Rattle.tq_refresh.proofs.Walked.{of_one_tree, left_of_tree, walks-passes, walks-passed}
 use Rattle.tq_cluster.specs.Rounds.{with_jobs}
 use Rattle.tq_cluster.proofs.Pulled.{one_put}

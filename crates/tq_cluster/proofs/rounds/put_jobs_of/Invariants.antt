@@ -1,7 +1,6 @@
 use Rattle.std.proofs.Common.{◌≡◌, Some, filter}
 use Rattle.std.specs.List.{All}
-use Rattle.crossbeam_channel.specs.Claims.{view}
-use Rattle.crossbeam_channel.specs.Ends.{sends_on}
+use Rattle.crossbeam_channel.specs.{Claims.view, Ends.sends_on}
 use Rattle.tq_shape.specs.ServerSet.{has_number}
 use Rattle.tq_refresh.specs.Plan.{jobs_from, jobs_in}
 use Rattle.tq_cluster.specs.Rounds.{with_jobs}

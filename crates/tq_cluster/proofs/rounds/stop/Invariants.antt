@@ -1,6 +1,5 @@
 use Rattle.std.proofs.Common.{◌≡◌}
-use Rattle.crossbeam_channel.specs.Claims.{view}
-use Rattle.crossbeam_channel.specs.Ends.{sends_on}
+use Rattle.crossbeam_channel.specs.{Claims.view, Ends.sends_on}
 use Rattle.tq_cluster.proofs.rounds.stop.Given as goal
 
 abbrev pub invariant-loop : goal.invariant-loop

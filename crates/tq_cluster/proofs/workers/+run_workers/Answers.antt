@@ -1,12 +1,10 @@
-use Rattle.std.proofs.Common.{refl, rules, ◌∙◌, ap, ◌≡◌, ◌+◌, ◌-◌, ◌++◌, [], ◌∷◌, ℕ, subst, arith}
+use Rattle.std.proofs.{Common.{refl, rules, ◌∙◌, ap, ◌≡◌, ◌+◌, ◌-◌, ◌++◌, [], ◌∷◌, ℕ, subst, arith}, Crossing.send}
 use Rattle.std.proofs.lemmas.Bool.Decides.{nat_tests}
 use denote.Param.{param}
 use denote.Param.Send.{IsSync, param_send, arg_send, shr_send}
 use denote.Exit.{no}
-use Rattle.std.proofs.Crossing.{send}
 use Rattle.crossbeam_channel.specs.Claims.{view}
-use Rattle.tq_cluster.specs.declared.workers.WorkerPromise.{WorkerPromise}
-use Rattle.tq_cluster.specs.Clients.{Works, BeginsJobs}
+use Rattle.tq_cluster.specs.{declared.workers.WorkerPromise.WorkerPromise, Clients.{Works, BeginsJobs}}
 use Rattle.tq_cluster.proofs.Callers.{all_and, joined, one_worker_more}
 use Rattle.tq_cluster.proofs.Seen.{caller_send, taker_send, cluster_sync, five_send}
 use Rattle.tq_cluster.proofs.workers.+run_workers.Goals as goal

@@ -1,8 +1,7 @@
 use Rattle.std.proofs.Common.{refl, ℕ, ◌∙◌, sym, subst}
 use Rattle.crossbeam_channel.specs.Claims.{view}
 use Rattle.tq_refresh.specs.Plan.{Grows, IsBegun, refresh_asked}
-use Rattle.tq_cluster.specs.Told.{CallerView}
-use Rattle.tq_cluster.specs.Clients.{JobsBegin, jobs_in}
+use Rattle.tq_cluster.specs.{Told.CallerView, Clients.{JobsBegin, jobs_in}}
 use Rattle.tq_cluster.proofs.Callers.{jobs_make_more, job_begun, jobs_begin_more}
 use Rattle.tq_cluster.proofs.workers.work.Goals as goal
 

@@ -1,6 +1,5 @@
 use Rattle.std.proofs.Common.{◌≡◌, false}
-use Rattle.crossbeam_channel.specs.Claims.{view}
-use Rattle.crossbeam_channel.specs.Ends.{receives_on}
+use Rattle.crossbeam_channel.specs.{Claims.view, Ends.receives_on}
 use Rattle.tq_cluster.specs.Clients.{JobsBegin, JobsMake, jobs_in}
 use Rattle.tq_cluster.proofs.workers.work.Given as goal
 

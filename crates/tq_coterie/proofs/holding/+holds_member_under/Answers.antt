@@ -1,6 +1,5 @@
 use Rattle.std.proofs.Common.{◌≡◌, ap, sym, ◌∙◌}
-use Rattle.tq_shape.specs.declared.server.Sides.{Sides}
-use Rattle.tq_shape.specs.Tree.{left_of, right_of, height_of}
+use Rattle.tq_shape.specs.{declared.server.Sides.Sides, Tree.{left_of, right_of, height_of}}
 use Rattle.tq_coterie.specs.Coterie.{has}
 use Rattle.tq_coterie.proofs.Sets.{holds-from, holds-at_leaf}
 use Rattle.tq_coterie.proofs.holding.+holds_member_under.Goals as goal

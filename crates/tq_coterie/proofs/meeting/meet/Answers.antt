@@ -1,7 +1,6 @@
 use Rattle.std.proofs.Common.{sym, ◌∙◌, ℕ, subst}
 use Rattle.tq_coterie.specs.Coterie.{IsMemberList}
-use Rattle.tq_coterie.proofs.Members.{any_two-meet}
-use Rattle.tq_coterie.proofs.Marked.{least-common, some-common, common-levels}
+use Rattle.tq_coterie.proofs.{Members.any_two-meet, Marked.{least-common, some-common, common-levels}}
 use Rattle.tq_coterie.proofs.meeting.meet.Goals as goal
 
 pub unreachable-requires : goal.unreachable-requires

@@ -1,5 +1,4 @@
-use Rattle.std.proofs.Common.{◌≡◌, true, eqb, refl, sym, ◌∙◌}
-use Rattle.std.proofs.lemmas.Bool.{eq-eqb, not-false}
+use Rattle.std.proofs.{Common.{◌≡◌, true, eqb, refl, sym, ◌∙◌}, lemmas.Bool.{eq-eqb, not-false}}
 use Rattle.tq_coterie.proofs.Sets.{same-servers}
 use Rattle.tq_coterie.proofs.member.are_same.Goals as goal
 

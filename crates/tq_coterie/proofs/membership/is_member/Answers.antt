@@ -1,8 +1,6 @@
-use Rattle.std.proofs.Common.{◌≡◌, refl, sym, ◌∙◌}
-use Rattle.std.proofs.lemmas.Bool.{false≢true, iff_false}
+use Rattle.std.proofs.{Common.{◌≡◌, refl, sym, ◌∙◌}, lemmas.Bool.{false≢true, iff_false}}
 use Rattle.tq_shape.specs.Tree.{height_of}
-use Rattle.tq_coterie.specs.Parts.{part_of}
-use Rattle.tq_coterie.specs.declared.holding.Overlap.TheVariants.{Member}
+use Rattle.tq_coterie.specs.{Parts.part_of, declared.holding.Overlap.TheVariants.Member}
 use Rattle.tq_coterie.proofs.Parts.{member-tested, tested-member, member-servers}
 use Rattle.tq_coterie.proofs.membership.is_member.Goals as goal
 

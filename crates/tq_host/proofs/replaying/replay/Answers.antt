@@ -1,5 +1,4 @@
-use Rattle.std.proofs.Common.{◌+◌, [], length, take, refl, ◌∙◌, arith, rules}
-use Rattle.std.proofs.lemmas.Bool.{eqb-true}
+use Rattle.std.proofs.{Common.{◌+◌, [], length, take, refl, ◌∙◌, arith, rules}, lemmas.Bool.eqb-true}
 use Rattle.std.proofs.lemmas.List.{take_rest, length-drop}
 use Rattle.memchr.specs.Find.{Nowhere, Passes, is_byte}
 use Rattle.tq_shape.specs.Agrees.{standing_part}

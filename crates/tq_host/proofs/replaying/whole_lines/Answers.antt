@@ -1,6 +1,4 @@
-use Rattle.std.proofs.Common.{◌+◌, drop, inr, take, refl, sym}
-use Rattle.std.proofs.lemmas.Bool.{eqb-true}
-use Rattle.std.proofs.lemmas.List.{take-append-drop}
+use Rattle.std.proofs.{Common.{◌+◌, drop, inr, take, refl, sym}, lemmas.Bool.eqb-true, lemmas.List.take-append-drop}
 use Rattle.tq_host.proofs.LineLaws.{feed-ends, no-feed-at-all, no-feed-behind}
 use Rattle.tq_host.proofs.replaying.whole_lines.Goals as goal
 

@@ -1,13 +1,11 @@
 use Rattle.std.proofs.Common.{◌≡◌, ◌<◌, ◌≤◌, ◌^◌, ◌+◌, ◌-◌, ◌++◌, [], length, take, drop, refl, sym, ap, subst, ◌∙◌, arith, rules}
-use Rattle.std.proofs.lemmas.Bool.{eqb-true}
-use Rattle.std.proofs.lemmas.List.{length-take-le}
+use Rattle.std.proofs.lemmas.{Bool.eqb-true, List.length-take-le}
 use Rattle.std.specs.Io.KnownBytes.{Appends, Keeps}
 use Rattle.memchr.specs.Find.{Nowhere, Passes, is_byte}
-use Rattle.tq_host.specs.Lines.{IsLine}
-use Rattle.tq_host.specs.Told.{Told, IsTold, with_told, nothing_left, IsHalfOut}
+use Rattle.tq_host.specs.{Lines.IsLine, Told.{Told, IsTold, with_told, nothing_left, IsHalfOut}}
+use Rattle.tq_host.specs.declared.fault.HostFault.TheVariants.{Memory}
 use Rattle.tq_host.proofs.LineLaws.{line-found, no-feed-at-all, take-few}
 use Rattle.tq_host.proofs.ServeLaws.{turning-opens, turn-line, turn-cut, turn-half, turn-last, turn-long, turn-read, turn-fails, turn-ends, turn-same, slice-rest}
-use Rattle.tq_host.specs.declared.fault.HostFault.TheVariants.{Memory}
 use Rattle.tq_host.proofs.serving.serve.Goals as goal
 
 pub loop-turn-init : goal.loop-turn-init

@@ -1,12 +1,9 @@
 use Rattle.std.proofs.Common.{◌≡◌, refl, sym, subst}
-use Rattle.tq_txn.specs.declared.txn.Txn.{Txn}
-use Rattle.tq_txn.specs.declared.txn.Txn.TheVariants as states
-use Rattle.tq_txn.specs.Told.{IsEnding}
-use Rattle.tq_txn.specs.Dialogue.{Follows, ended_by}
+use Rattle.tq_txn.specs.{declared.txn.Txn.Txn, Told.IsEnding, Dialogue.{Follows, ended_by}}
 use Rattle.tq_txn.specs.Commits.{commit_line, decide_line}
+use Rattle.tq_txn.specs.declared.txn.Txn.TheVariants as states
 use Rattle.tq_interpreter.specs.TxnAsked.{answer_end, missing_in, serial_text, decision_asked, decision_voting, course_line, IsClosed}
-use Rattle.tq_interpreter.specs.declared.states.Closed.{Closed}
-use Rattle.tq_interpreter.specs.declared.states.Closed.TheVariants.{Voting}
+use Rattle.tq_interpreter.specs.declared.states.{Closed.Closed, Closed.TheVariants.Voting}
 use Rattle.tq_interpreter.specs.Known.{IsKept, in_state}
 use Rattle.tq_interpreter.proofs.ShellLines.{answered_as, kept_ending, later_asked, said_by, voting_kept}
 use Rattle.tq_interpreter.proofs.decisions.decide_txn.Goals.{in-Decide, in-Commit}

@@ -1,10 +1,6 @@
 use Rattle.std.proofs.Common.{refl, sym, subst}
-use Rattle.tq_txn.specs.declared.txn.Txn.{Txn}
-use Rattle.tq_txn.specs.Dialogue.{Follows, ended_by}
-use Rattle.tq_txn.specs.Commits.{abort_line}
-use Rattle.tq_txn.specs.Told.{Knows}
-use Rattle.tq_interpreter.specs.TxnAsked.{answer_end, no_servers, aborted_text}
-use Rattle.tq_interpreter.specs.Known.{IsKept, in_state}
+use Rattle.tq_txn.specs.{declared.txn.Txn.Txn, Dialogue.{Follows, ended_by}, Commits.abort_line, Told.Knows}
+use Rattle.tq_interpreter.specs.{TxnAsked.{answer_end, no_servers, aborted_text}, Known.{IsKept, in_state}}
 use Rattle.tq_interpreter.proofs.ShellLines.{kept_ending, later_asked, said_by}
 use Rattle.tq_interpreter.proofs.endings.abort_txn.Goals as goal
 

@@ -1,11 +1,8 @@
 use Rattle.std.proofs.Common.{Ok, Err, refl, sym, subst}
-use Rattle.tq_desk.specs.declared.ask.DeskAsk.{DeskAsk}
-use Rattle.tq_desk.specs.declared.ask.DeskAsk.TheVariants.{Resolve}
-use Rattle.tq_txn.specs.declared.fault.LineFault.{LineFault}
-use Rattle.tq_txn.specs.Dialogue.{Follows, desk_line, ended_by}
+use Rattle.tq_desk.specs.declared.ask.{DeskAsk.DeskAsk, DeskAsk.TheVariants.Resolve}
+use Rattle.tq_txn.specs.{declared.fault.LineFault.LineFault, Dialogue.{Follows, desk_line, ended_by}}
 use Rattle.tq_txn.proofs.LineLaws.{told_desk, refused_desk}
-use Rattle.tq_interpreter.specs.Known.{IsKept}
-use Rattle.tq_interpreter.specs.TxnAsked.{resolve_end}
+use Rattle.tq_interpreter.specs.{Known.IsKept, TxnAsked.resolve_end}
 use Rattle.tq_interpreter.proofs.ShellLines.{kept_on, later_by, said_by}
 use Rattle.tq_interpreter.proofs.endings.resolve.Goals as goal
 

@@ -1,7 +1,6 @@
 use Rattle.std.proofs.Common.{Ok, ap}
 use Rattle.tq_refresh.specs.Plan.{answer_in}
-use Rattle.tq_interpreter.proofs.Recording.{node_answered, node_refused}
-use Rattle.tq_interpreter.proofs.ShellLines.{later_by}
+use Rattle.tq_interpreter.proofs.{Recording.{node_answered, node_refused}, ShellLines.later_by}
 use Rattle.tq_interpreter.proofs.operators.answer_of.Goals as goal
 
 pub returns-in-Ok : goal.returns-in-Ok

@@ -1,11 +1,8 @@
 use Rattle.std.proofs.Common.{◌≡◌, ◌+◌, [], ◌++◌, List, Some, filter, length, refl, ap, sym, subst, ◌∙◌, arith, rules}
+use Rattle.std.proofs.lemmas.{List.append-nil, List.Elements.All-head}
 use Rattle.std.specs.List.{All}
-use Rattle.std.proofs.lemmas.List.{append-nil}
-use Rattle.std.proofs.lemmas.List.Elements.{All-head}
-use Rattle.tq_shape.specs.ServerSet.{has_number}
-use Rattle.tq_shape.specs.Tree.{Server}
-use Rattle.tq_refresh.specs.declared.job.Job.{Job}
-use Rattle.tq_refresh.specs.Plan.{jobs_from, servers_in}
+use Rattle.tq_shape.specs.{ServerSet.has_number, Tree.Server}
+use Rattle.tq_refresh.specs.{declared.job.Job.Job, Plan.{jobs_from, servers_in}}
 use Rattle.tq_refresh.proofs.Walked.{left_of_tree, of_one_tree, walks-passed, walks-passes}
 use Rattle.tq_text.specs.Print.{printed_line}
 use Rattle.tq_interpreter.specs.Answer.{job_text}

@@ -1,11 +1,8 @@
 use Rattle.std.proofs.Common.{◌≡◌, ◌≤◌, ◌+◌, ◌++◌, List, Some, filter, length}
 use Rattle.std.specs.List.{All}
-use Rattle.tq_shape.specs.ServerSet.{has_number}
-use Rattle.tq_shape.specs.Tree.{Server}
-use Rattle.tq_refresh.specs.declared.job.Job.{Job}
-use Rattle.tq_refresh.specs.Plan.{jobs_from, jobs_in, peek_of}
-use Rattle.tq_interpreter.specs.Answer.{LeadsOn, so_far, mended_front, mended_back}
-use Rattle.tq_interpreter.specs.Known.{IsLater}
+use Rattle.tq_shape.specs.{ServerSet.has_number, Tree.Server}
+use Rattle.tq_refresh.specs.{declared.job.Job.Job, Plan.{jobs_from, jobs_in, peek_of}}
+use Rattle.tq_interpreter.specs.{Answer.{LeadsOn, so_far, mended_front, mended_back}, Known.IsLater}
 use Rattle.tq_text.specs.Print.{Extends}
 use Rattle.tq_interpreter.proofs.operators.mend_file.Given as goal
 

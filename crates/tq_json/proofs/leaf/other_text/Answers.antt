@@ -1,7 +1,6 @@
 use Rattle.std.proofs.Common.{◌≡◌, ◌∷◌, None, refl, ap, ◌∙◌}
 use Rattle.json.specs.Reads.{token_of}
-use Rattle.serde_json.specs.Data.{string}
-use Rattle.serde_json.specs.Find.{as_str}
+use Rattle.serde_json.specs.{Data.string, Find.as_str}
 use Rattle.tq_json.specs.Next.{next}
 use Rattle.tq_json.proofs.Nexts.{next-string, other_value, text_alone}
 use Rattle.tq_json.proofs.leaf.other_text.Goals as goal

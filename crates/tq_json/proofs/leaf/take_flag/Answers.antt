@@ -1,7 +1,6 @@
 use Rattle.std.proofs.Common.{◌≡◌, ◌∷◌, None, refl, ap, ◌∙◌}
 use Rattle.json.specs.Reads.{token_of}
-use Rattle.serde_json.specs.Data.{boolean}
-use Rattle.serde_json.specs.Find.{as_bool}
+use Rattle.serde_json.specs.{Data.boolean, Find.as_bool}
 use Rattle.tq_json.specs.Next.{next}
 use Rattle.tq_json.proofs.Nexts.{next-boolean, other_value, flag_alone}
 use Rattle.tq_json.proofs.leaf.take_flag.Goals as goal

@@ -1,5 +1,4 @@
-use Rattle.std.proofs.Common.{ap, ◌∙◌}
-use Rattle.std.proofs.lemmas.Str.{IsCharBoundary-after_ascii}
+use Rattle.std.proofs.{Common.{ap, ◌∙◌}, lemmas.Str.IsCharBoundary-after_ascii}
 use Rattle.json.specs.Lex.{between, lex}
 use Rattle.tq_json.proofs.Lexemes.{mark_over, mark_some, mark_ascii}
 use Rattle.tq_json.proofs.lexeme.behind.Goals as goal

@@ -1,10 +1,7 @@
 use Rattle.std.proofs.Common.{◌≡◌, ◌<◌, ◌+◌, get_or, length, drop, Some, lt_of_not-le, sym, ap, ◌∙◌, arith}
-use Rattle.std.proofs.lemmas.Str.{IsCharBoundary-after_ascii}
-use Rattle.std.proofs.lemmas.List.{get_or_default, get_or_past}
+use Rattle.std.proofs.lemmas.{Str.IsCharBoundary-after_ascii, List.{get_or_default, get_or_past}}
 use Rattle.std.specs.List.{prefix_len}
-use Rattle.json.specs.Word.{head}
-use Rattle.json.specs.Lex.{between, lex}
-use Rattle.json.specs.Run.{is_plain}
+use Rattle.json.specs.{Word.head, Lex.{between, lex}, Run.is_plain}
 use Rattle.tq_json.proofs.Lexemes.{quoted}
 use Rattle.tq_json.proofs.lexeme.string_first.Goals as goal
 

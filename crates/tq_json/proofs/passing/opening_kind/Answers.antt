@@ -1,7 +1,6 @@
 use Rattle.std.proofs.Common.{◌≡◌, ◌∷◌, None, true, false, ap, ◌∙◌, arith}
 use Rattle.std.specs.Option.{is_some}
-use Rattle.json.specs.Json.{value}
-use Rattle.json.specs.Reads.{token_of}
+use Rattle.json.specs.{Json.value, Reads.token_of}
 use Rattle.json.proofs.Grammar.{value_is}
 use Rattle.serde_json.specs.Read.{number_of, of_json, converted}
 use Rattle.tq_json.specs.Next.{next, behind}

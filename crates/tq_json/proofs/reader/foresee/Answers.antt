@@ -1,7 +1,7 @@
 use Rattle.std.proofs.Common.{sym, ap, subst, ◌∙◌, refl}
 use Rattle.tq_json.specs.Plain.{tokens_at, goes_at, NotBeforeComma}
-use Rattle.tq_json.proofs.Marks.{closes_by, closes_not, solid_at, over_at, ended, closing_after_comma, comma_as_fresh, closing_as_fresh, not_begun}
 use Rattle.tq_json.specs.declared.reader.Place.TheVariants.{AfterComma, AfterValue}
+use Rattle.tq_json.proofs.Marks.{closes_by, closes_not, solid_at, over_at, ended, closing_after_comma, comma_as_fresh, closing_as_fresh, not_begun}
 use Rattle.tq_json.proofs.reader.foresee.Goals as goal
 
 pub returns-then-closes : goal.returns-then-closes

@@ -1,5 +1,4 @@
-use Rattle.std.proofs.Common.{arith}
-use Rattle.std.proofs.lemmas.Simd.{zip2_splat}
+use Rattle.std.proofs.{Common.arith, lemmas.Simd.zip2_splat}
 use Rattle.json.specs.Run.{is_stop}
 use Rattle.tq_json.proofs.Lexemes.{hit, below, either, masked}
 use Rattle.tq_json.proofs.run.stops.Goals as goal

@@ -1,8 +1,6 @@
 use Rattle.std.proofs.Common.{◌≡◌, ◌∷◌, refl, sym, ap, ◌∙◌, arith}
-use Rattle.json.specs.Token.{end_object}
-use Rattle.json.specs.Json.{read_key}
-use Rattle.serde_json.specs.Data.{no_members}
-use Rattle.serde_json.specs.Find.{get_member}
+use Rattle.json.specs.{Token.end_object, Json.read_key}
+use Rattle.serde_json.specs.{Data.no_members, Find.get_member}
 use Rattle.tq_json.specs.Next.{next_members}
 use Rattle.tq_json.proofs.Nexts.{members_end}
 use Rattle.tq_json_read.specs.Slots.{slots_for, members_behind}

@@ -1,6 +1,5 @@
 use Rattle.std.proofs.Common.{◌≡◌, ◌∷◌, None, rules, refl, sym, ap, ◌∙◌, arith}
-use Rattle.json.specs.Token.{key}
-use Rattle.json.specs.Json.{read_key}
+use Rattle.json.specs.{Token.key, Json.read_key}
 use Rattle.tq_json.proofs.Nexts.{members_stop}
 use Rattle.tq_json_read.specs.Slots.{members_behind}
 use Rattle.tq_json_read.proofs.Places.{named}

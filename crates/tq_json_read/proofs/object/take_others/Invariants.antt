@@ -1,6 +1,5 @@
 use Rattle.std.proofs.Common.{◌≡◌, ◌≤◌, length}
-use Rattle.serde_json.specs.Data.{Members}
-use Rattle.serde_json.specs.Find.{get_member}
+use Rattle.serde_json.specs.{Data.Members, Find.get_member}
 use Rattle.tq_json_read.specs.Slots.{slots_at, texts, members_behind}
 use Rattle.tq_json_read.proofs.object.take_others.Given as goal
 

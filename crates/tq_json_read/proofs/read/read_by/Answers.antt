@@ -1,8 +1,6 @@
 use Rattle.std.proofs.Common.{◌≡◌, Some, sym, ap, ◌∙◌}
-use Rattle.tq_json_read.specs.Slots.{names_of, file_fields, journals_from}
-use Rattle.tq_json_read.specs.Frame.{plan_from, plan_of}
-use Rattle.tq_json_read.specs.declared.file.FileFields.{FileFields}
-use Rattle.tq_json_read.specs.declared.entry.Plan.{Plan}
+use Rattle.tq_json_read.specs.{Slots.{names_of, file_fields, journals_from}, Frame.{plan_from, plan_of}}
+use Rattle.tq_json_read.specs.declared.{file.FileFields.FileFields, entry.Plan.Plan}
 use Rattle.tq_json_read.proofs.Planned.{is_planned, same_plan}
 use Rattle.tq_json_read.proofs.read.read_by.Goals as goal
 

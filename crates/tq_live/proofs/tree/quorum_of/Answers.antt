@@ -1,5 +1,4 @@
-use Rattle.std.proofs.Common.{◌≡◌, ℕ, List, ap, ◌∙◌}
-use Rattle.std.proofs.lemmas.Result.{IfOk-weaker}
+use Rattle.std.proofs.{Common.{◌≡◌, ℕ, List, ap, ◌∙◌}, lemmas.Result.IfOk-weaker}
 use Rattle.tq_coterie.specs.Coterie.{ServerList, numbers_of}
 use Rattle.tq_coterie.proofs.Parts.{numbers_of-servers_of, IsMemberList-servers_of}
 use Rattle.tq_live.proofs.tree.quorum_of.Goals as goal

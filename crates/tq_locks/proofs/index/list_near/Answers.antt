@@ -1,7 +1,6 @@
 use Rattle.std.proofs.Common.{ap, position, sym, ◌∙◌}
 use Rattle.std.specs.Map.{keys_of}
-use Rattle.indexmap.proofs.MapLemmas.{index-first}
-use Rattle.indexmap.proofs.RemoveLemmas.{own_first}
+use Rattle.indexmap.proofs.{MapLemmas.index-first, RemoveLemmas.own_first}
 use Rattle.tq_locks.proofs.index.list_near.Goals as goal
 
 pub returns-then-eq-clause-index : goal.returns-then-eq-clause-index

@@ -1,7 +1,6 @@
 use Rattle.std.proofs.Common.{◌≡◌}
 use Rattle.std.specs.Option.{option_copied}
-use Rattle.tq_locks.specs.Keys.{keys_in, entries_of}
-use Rattle.tq_locks.specs.Kept.{first_blocker}
+use Rattle.tq_locks.specs.{Keys.{keys_in, entries_of}, Kept.first_blocker}
 use Rattle.tq_locks.proofs.keyed.held_by.Given as goal
 
 -- the entries that were passed are the transaction's own

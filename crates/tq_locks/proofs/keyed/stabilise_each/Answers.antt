@@ -1,5 +1,4 @@
-use Rattle.std.proofs.Common.{◌+◌, drop, sym, ◌∙◌}
-use Rattle.std.proofs.lemmas.List.{at_drop_more}
+use Rattle.std.proofs.{Common.{◌+◌, drop, sym, ◌∙◌}, lemmas.List.at_drop_more}
 use Rattle.tq_locks.specs.Locks.{entry_after_steady}
 use Rattle.tq_locks.proofs.Steadied.{steadied-more}
 use Rattle.tq_locks.proofs.keyed.stabilise_each.Goals as goal

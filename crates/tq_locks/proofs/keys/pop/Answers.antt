@@ -1,6 +1,6 @@
 use Rattle.std.proofs.Common.{◌≡◌, ◌-◌, ◌*◌, ◌≤◌, ◌<◌, length, ap, sym, ◌∙◌, arith, option_to_list, Some, None, ℕ, List, Option, zero, suc, refl, IsSome, IfNone, [], ◌∷◌}
-use mathlib.Core.Bool.{false≢true}
 use Rattle.std.proofs.lemmas.List.{length-take}
+use mathlib.Core.Bool.{false≢true}
 use Rattle.tq_locks.specs.Keys.{turned_keys}
 use Rattle.tq_locks.proofs.Blocks.{behind_blocks, length-turned}
 use Rattle.tq_locks.proofs.keys.pop.Goals as goal

@@ -1,5 +1,4 @@
-use Rattle.tq_locks.proofs.Found.{locks_total, locks_same}
-use Rattle.tq_locks.proofs.Partition.{stands-in_place}
+use Rattle.tq_locks.proofs.{Found.{locks_total, locks_same}, Partition.stands-in_place}
 use Rattle.slab.specs.Slab.{get}
 use Rattle.tq_locks.proofs.lists.leave.Goals as goal
 

@@ -1,9 +1,7 @@
 use Rattle.std.proofs.Common.{ℕ, List, length, ap, sym, ◌∙◌, arith}
 use Rattle.slab.specs.Slab.{get}
-use Rattle.tq_locks.specs.Kept.{is_under_at}
-use Rattle.tq_locks.specs.Locks.{LockKey}
-use Rattle.tq_locks.proofs.Found.{locks_total}
-use Rattle.tq_locks.proofs.Partition.{behind_under, upto_other, place_most, middle}
+use Rattle.tq_locks.specs.{Kept.is_under_at, Locks.LockKey}
+use Rattle.tq_locks.proofs.{Found.locks_total, Partition.{behind_under, upto_other, place_most, middle}}
 use Rattle.tq_locks.proofs.lists.place_within.Goals.{then-is_below_at, else-is_below_at}
 use Rattle.tq_locks.proofs.lists.place_within.Goals as goal
 

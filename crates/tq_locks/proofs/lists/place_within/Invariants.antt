@@ -1,10 +1,7 @@
 use Rattle.std.proofs.Common.{◌-◌, ◌≤◌, ◌<◌, length, List}
 use lib.Dec.{T}
 use Rattle.std.specs.FinMap as fin
-use Rattle.tq_locks.specs.declared.mode.Lock.{Lock}
-use Rattle.tq_locks.specs.Keys.{place}
-use Rattle.tq_locks.specs.Kept.{AreKeysOf}
-use Rattle.tq_locks.specs.Locks.{LockKey, lock_cmp}
+use Rattle.tq_locks.specs.{declared.mode.Lock.Lock, Keys.place, Kept.AreKeysOf, Locks.{LockKey, lock_cmp}}
 use Rattle.tq_locks.proofs.lists.place_within.Given as goal
 
 -- the place is between, and so is where it's looked next

@@ -1,9 +1,6 @@
-use Rattle.std.proofs.Common.{Some, nat_eq, length, ltb-true, refl, ap, sym, subst, ◌∙◌}
-use Rattle.std.proofs.lemmas.Option.{slice_get_read}
+use Rattle.std.proofs.{Common.{Some, nat_eq, length, ltb-true, refl, ap, sym, subst, ◌∙◌}, lemmas.Option.slice_get_read}
 use Rattle.tq_shape.specs.Journal.{Has}
-use Rattle.tq_locks.proofs.Applied.{Has-at}
-use Rattle.tq_locks.proofs.Placed.{OnTrue-to}
-use Rattle.tq_locks.proofs.Listed.{equal}
+use Rattle.tq_locks.proofs.{Applied.Has-at, Placed.OnTrue-to, Listed.equal}
 use Rattle.tq_locks.proofs.lock_slab.is_in_place.Goals as goal
 
 pub returns-in-Some-get : goal.returns-in-Some-get

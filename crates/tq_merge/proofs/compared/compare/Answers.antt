@@ -1,6 +1,5 @@
-use Rattle.std.proofs.Common.{◌≡◌, ◌++◌, ◌∙◌, inl, inr, ℕ, List, take, ap, sym, subst, arith}
+use Rattle.std.proofs.{Common.{◌≡◌, ◌++◌, ◌∙◌, inl, inr, ℕ, List, take, ap, sym, subst, arith}, lemmas.List.take_all}
 use Rattle.std.specs.List.{All}
-use Rattle.std.proofs.lemmas.List.{take_all}
 use Rattle.tq_txn.specs.declared.asker.Exchange.{Exchange}
 use Rattle.tq_merge.specs.declared.claimed.EntryName.{EntryName}
 use Rattle.tq_merge.specs.Told.{IsWithin, IsFallen, Rise, IsStray, Stands, names_of, all_names, entry_counts}

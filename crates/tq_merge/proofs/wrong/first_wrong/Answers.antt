@@ -4,8 +4,7 @@ use Rattle.tq_shape.specs.Limits.{LimitsView}
 use Rattle.tq_shape.proofs.Joined.{legal-reverse}
 use Rattle.tq_desk.specs.DeskJournal.{IsLegalDesk, step_reply, step_after, opened_desk, DeskEntry}
 use Rattle.tq_live.specs.View.{IsLegalView}
-use Rattle.tq_tables.specs.Journals.{ViewEntry}
-use Rattle.tq_tables.specs.Parts.{AreLegalServers, bounds_of}
+use Rattle.tq_tables.specs.{Journals.ViewEntry, Parts.{AreLegalServers, bounds_of}}
 use Rattle.tq_merge.specs.Wrong.{IsLegalDeskFrom, IsWrongOfView}
 use Rattle.tq_merge.proofs.wrong.first_wrong.Goals as goal
 

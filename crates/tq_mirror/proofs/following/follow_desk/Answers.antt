@@ -1,5 +1,4 @@
-use Rattle.std.proofs.Common.{ap, refl, sym, ◌∙◌}
-use Rattle.std.proofs.lemmas.Bool.{false≢true}
+use Rattle.std.proofs.{Common.{ap, refl, sym, ◌∙◌}, lemmas.Bool.false≢true}
 use Rattle.tq_mirror.proofs.Led.{led_all, led_next, led_none, not_given}
 use Rattle.tq_mirror.proofs.Standing.{desk_grows, desk_none, led_ahead, may_ask_desk}
 use Rattle.tq_shape.specs.declared.part.Part.TheVariants as parts

@@ -1,5 +1,4 @@
-use Rattle.std.proofs.Common.{◌+◌, ap, arith, length-take-le, refl, sym, take, ◌∙◌}
-use Rattle.std.proofs.lemmas.Bool.{false≢true}
+use Rattle.std.proofs.{Common.{◌+◌, ap, arith, length-take-le, refl, sym, take, ◌∙◌}, lemmas.Bool.false≢true}
 use Rattle.tq_mirror.proofs.Led.{led_all, led_next, led_none, not_given}
 use Rattle.tq_mirror.proofs.Standing.{led_ahead, may_ask, server_grows, server_none}
 use Rattle.tq_shape.specs.declared.part.Part.TheVariants as parts

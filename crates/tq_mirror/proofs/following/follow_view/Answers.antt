@@ -1,10 +1,8 @@
-use Rattle.std.proofs.Common.{ap, refl, sym, ◌∙◌}
-use Rattle.std.proofs.lemmas.Bool.{false≢true}
+use Rattle.std.proofs.{Common.{ap, refl, sym, ◌∙◌}, lemmas.Bool.false≢true}
 use Rattle.tq_tables.specs.Reserved.{unready}
-use Rattle.tq_mirror.proofs.Led.{led_all, led_next, led_none, not_given}
+use Rattle.tq_mirror.proofs.{Led.{led_all, led_next, led_none, not_given}, Standing.{led_ahead, view_grows, view_none}}
 use Rattle.tq_shape.specs.declared.part.Part.TheVariants as parts
 use Rattle.tq_mirror.specs.declared.entries.Entries.TheVariants as entries
-use Rattle.tq_mirror.proofs.Standing.{led_ahead, view_grows, view_none}
 use Rattle.tq_mirror.proofs.following.follow_view.Goals as goal
 
 pub loop-entry-init : goal.loop-entry-init

@@ -1,8 +1,7 @@
 use Rattle.std.proofs.Common.{◌≡◌, ◌==◌, List, [], ◌∷◌, length, refl, sym, ap, ◌∙◌, rules, arith}
 use Rattle.std.proofs.lemmas.Bool.Decides.{nat_tests}
 use Rattle.tq_store.specs.declared.write.Write.{Write}
-use Rattle.tq_locks.specs.declared.mode.Lock.{Lock}
-use Rattle.tq_locks.specs.Locks.{LockKey}
+use Rattle.tq_locks.specs.{declared.mode.Lock.Lock, Locks.LockKey}
 use Rattle.tq_node.specs.Telling.{all_held}
 use Rattle.tq_node.proofs.votes.all_held.Goals as goal
 

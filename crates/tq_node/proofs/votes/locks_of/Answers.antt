@@ -1,5 +1,4 @@
-use Rattle.std.proofs.Common.{◌≡◌, map, ◌∙◌, arith}
-use Rattle.std.proofs.lemmas.Grind.{common_steps}
+use Rattle.std.proofs.{Common.{◌≡◌, map, ◌∙◌, arith}, lemmas.Grind.common_steps}
 use Rattle.tq_intents.specs.Sharing.{kept_each}
 use Rattle.tq_locks.specs.Locks.{held_of}
 use Rattle.tq_node.specs.Records.{held_lock}

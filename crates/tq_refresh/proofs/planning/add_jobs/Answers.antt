@@ -1,8 +1,6 @@
 use Rattle.std.proofs.Common.{◌≡◌, ◌++◌, Some, filter, ap, sym, ◌∙◌, rules}
-use Rattle.tq_shape.specs.ServerSet.{has_number}
-use Rattle.tq_shape.specs.Tree.{Server}
-use Rattle.tq_refresh.specs.declared.job.Job.{Job}
-use Rattle.tq_refresh.specs.Plan.{servers_in, jobs_from}
+use Rattle.tq_shape.specs.{ServerSet.has_number, Tree.Server}
+use Rattle.tq_refresh.specs.{declared.job.Job.Job, Plan.{servers_in, jobs_from}}
 use Rattle.tq_refresh.proofs.Walked.{of_one_tree, left_of_tree, put-passes, put-passed}
 use Rattle.tq_refresh.proofs.planning.add_jobs.Goals as goal
 

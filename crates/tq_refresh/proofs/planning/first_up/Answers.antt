@@ -1,9 +1,7 @@
 use Rattle.std.proofs.Common.{◌≡◌, Some, None, find, ap, sym, ◌∙◌, rules}
-use Rattle.tq_shape.specs.ServerSet.{has_number}
-use Rattle.tq_shape.specs.Tree.{Server}
+use Rattle.tq_shape.specs.{ServerSet.has_number, Tree.Server}
 use Rattle.tq_refresh.specs.Plan.{servers_in}
-use Rattle.tq_refresh.proofs.Marked.{find-up}
-use Rattle.tq_refresh.proofs.Walked.{of_one_tree, left_of_tree, find-passed}
+use Rattle.tq_refresh.proofs.{Marked.find-up, Walked.{of_one_tree, left_of_tree, find-passed}}
 use Rattle.tq_refresh.proofs.planning.first_up.Goals as goal
 
 pub loop-current-init : goal.loop-current-init

@@ -1,12 +1,10 @@
 use Rattle.std.proofs.Common.{◌∷◌, [], ℕ, Option, subst, sym, ap, ◌∙◌}
-use Rattle.std.specs.Prelude.{IfSome}
-use Rattle.std.specs.List.{All}
 use Rattle.std.proofs.lemmas.List.Elements.{All-append, All-cons, All-nil}
-use Rattle.tq_refresh.specs.declared.file_jobs.FileJobs.{FileJobs}
-use Rattle.tq_refresh.specs.Plan.{IsPlanned, jobs_in, jobs_of}
+use Rattle.std.specs.{Prelude.IfSome, List.All}
+use Rattle.tq_refresh.specs.{declared.file_jobs.FileJobs.FileJobs, Plan.{IsPlanned, jobs_in, jobs_of}}
 use Rattle.tq_refresh.proofs.Walked.{none_gathered, one_gathered}
-use Rattle.tq_refresh.proofs.planning.plan_rows.Goals as goal
 use Rattle.tq_refresh.proofs.planning.plan_rows.Goals.{in-Some+in_ok-push, in_default}
+use Rattle.tq_refresh.proofs.planning.plan_rows.Goals as goal
 
 pub loop-row-preserved : goal.loop-row-preserved
 loop-row-preserved c =

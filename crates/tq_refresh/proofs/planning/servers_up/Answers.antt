@@ -1,8 +1,7 @@
 use Rattle.std.proofs.Common.{◌≡◌, ◌+◌, ap, sym, ◌∙◌, arith}
 use Rattle.tq_shape.specs.Tree.{Server}
-use Rattle.tq_refresh.proofs.Marked.{one_up, one_down}
+use Rattle.tq_refresh.proofs.{Marked.{one_up, one_down}, planning.servers_up.Goals.{then-is_up, else-is_up}}
 use Rattle.tq_refresh.proofs.planning.servers_up.Goals as goal
-use Rattle.tq_refresh.proofs.planning.servers_up.Goals.{then-is_up, else-is_up}
 
 pub loop-below-preserved : goal.loop-below-preserved
 loop-below-preserved c =

@@ -1,5 +1,4 @@
-use Rattle.std.proofs.Common.{◌∙◌, ◌++◌, ◌%◌, ap, sym, arith, rules, append_assoc}
-use Rattle.std.proofs.lemmas.Fmt.{decimal_digit}
+use Rattle.std.proofs.{Common.{◌∙◌, ◌++◌, ◌%◌, ap, sym, arith, rules, append_assoc}, lemmas.Fmt.decimal_digit}
 use Rattle.itoa.proofs.Decimal.{decimal_pair, decimal_two, length_one, length_pair, length_two, pair}
 use Rattle.tq_shape.proofs.decimal.+push_digits.Goals as goal
 

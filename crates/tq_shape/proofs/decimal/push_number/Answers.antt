@@ -1,5 +1,4 @@
-use Rattle.std.proofs.Common.{arith, ◌<◌, ◌^◌}
-use Rattle.std.proofs.lemmas.Fmt.{length-decimal-le}
+use Rattle.std.proofs.{Common.{arith, ◌<◌, ◌^◌}, lemmas.Fmt.length-decimal-le}
 use Rattle.tq_shape.proofs.decimal.push_number.Goals as goal
 
 pub push_digits-requires : goal.push_digits-requires

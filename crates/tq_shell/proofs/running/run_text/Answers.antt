@@ -1,6 +1,5 @@
 use Rattle.std.proofs.Common.{◌≤◌, List, length, sym, subst, arith}
-use Rattle.tq_syntax.specs.declared.script.Line.{Line}
-use Rattle.tq_syntax.specs.Scripts.{said_lines}
+use Rattle.tq_syntax.specs.{declared.script.Line.Line, Scripts.said_lines}
 use Rattle.tq_shell.proofs.ReportLaws.{bad_line, few_scripts}
 use Rattle.tq_shell.proofs.running.run_text.Goals as goal
 

@@ -1,10 +1,8 @@
 use Rattle.std.proofs.Common.{◌≡◌, ℕ, List, Err, subst}
 use Rattle.tq_tables.specs.Journals.{JournalsView}
-use Rattle.tq_json_read.specs.declared.fault.ReadFault.{ReadFault}
-use Rattle.tq_json_read.specs.declared.fault.ReadFault.TheVariants.{NotJson}
+use Rattle.tq_json_read.specs.declared.fault.{ReadFault.ReadFault, ReadFault.TheVariants.NotJson}
 use Rattle.tq_json_read.specs.Frame.{Answers, journals_of}
-use Rattle.tq_shell.specs.declared.audit_finding.AuditFinding.TheVariants.{Unreadable}
-use Rattle.tq_shell.specs.Audit.{IsVerdict}
+use Rattle.tq_shell.specs.{declared.audit_finding.AuditFinding.TheVariants.Unreadable, Audit.IsVerdict}
 use Rattle.tq_shell.proofs.upgrading.found_in.Goals as goal
 
 -- bytes that are no JSON are no journal file

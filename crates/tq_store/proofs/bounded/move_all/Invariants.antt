@@ -1,6 +1,5 @@
 use Rattle.std.proofs.Common.{◌≡◌, ◌+◌, ◌++◌, length}
-use Rattle.std.specs.List.{IsDistinct}
-use Rattle.std.specs.Map.{keys_of}
+use Rattle.std.specs.{List.IsDistinct, Map.keys_of}
 use Rattle.indexmap.specs.IndexMap.{spare}
 use Rattle.tq_store.proofs.bounded.move_all.Given as goal
 

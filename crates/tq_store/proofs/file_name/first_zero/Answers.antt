@@ -1,5 +1,4 @@
-use Rattle.std.proofs.Common.{eqb, sym, arith, rules}
-use Rattle.std.proofs.lemmas.List.Sums.{position_or_len_is}
+use Rattle.std.proofs.{Common.{eqb, sym, arith, rules}, lemmas.List.Sums.position_or_len_is}
 use Rattle.tq_store.proofs.file_name.first_zero.Goals as goal
 
 pub returns-then-bytes-at-eq0-clause-value : goal.returns-then-bytes-at-eq0-clause-value

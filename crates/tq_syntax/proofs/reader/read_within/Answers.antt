@@ -1,13 +1,11 @@
 use Rattle.std.proofs.Common.{◌≡◌, ◌∙◌, ◌+◌, ℕ, Bool, List, Err, Some, [], length, drop, refl, sym, ap, subst, arith}
 use Rattle.std.specs.List.{slice_range}
-use Rattle.tq_syntax.specs.Word.{without_return}
-use Rattle.tq_syntax.specs.ClientLine.{client_line_of}
-use Rattle.tq_syntax.specs.Gathering.{gathered_with, IsGatheredWith}
+use Rattle.tq_syntax.specs.{Word.without_return, ClientLine.client_line_of, Gathering.{gathered_with, IsGatheredWith}}
 use Rattle.tq_syntax.specs.Scripts.{lines_within}
 use Rattle.tq_syntax.proofs.ByteLaws.{line_left, line_ends, line_goes_on, lines_left, none_left, over_left, some_left}
 use Rattle.tq_syntax.proofs.GatheringLaws.{run, below, line_gathered, read_finished, read_over, read_refused}
-use Rattle.tq_syntax.proofs.reader.read_within.Goals as goal
 use Rattle.tq_syntax.proofs.reader.read_within.Goals.{then-byte-eq10+in-Ok, else-byte-eq10}
+use Rattle.tq_syntax.proofs.reader.read_within.Goals as goal
 
 pub returns-in-Err : goal.returns-in-Err
 returns-in-Err c =

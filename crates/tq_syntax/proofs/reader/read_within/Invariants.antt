@@ -1,9 +1,7 @@
 use Rattle.std.proofs.Common.{◌≡◌, ◌≤◌, drop}
 use Rattle.std.specs.List.{slice_range}
-use Rattle.tq_syntax.specs.Gathering.{nothing_gathered}
-use Rattle.tq_syntax.specs.Scripts.{lines_within}
-use Rattle.tq_syntax.proofs.ByteLaws.{lines_left}
-use Rattle.tq_syntax.proofs.GatheringLaws.{run}
+use Rattle.tq_syntax.specs.{Gathering.nothing_gathered, Scripts.lines_within}
+use Rattle.tq_syntax.proofs.{ByteLaws.lines_left, GatheringLaws.run}
 use Rattle.tq_syntax.proofs.reader.read_within.Given as goal
 
 -- the bytes from `start` on belong to the line that goes on: with it and the bytes that are left the lines end as all of them do

@@ -1,5 +1,4 @@
-use Rattle.std.proofs.Common.{◌≤◌, ◌^◌, ◌∙◌, sym, arith}
-use Rattle.std.proofs.Math.Nat.{pow-le-pow_right}
+use Rattle.std.proofs.{Common.{◌≤◌, ◌^◌, ◌∙◌, sym, arith}, Math.Nat.pow-le-pow_right}
 use Rattle.tq_syntax.proofs.WordLaws.{digits_stop}
 use Rattle.tq_syntax.proofs.word.few_digits.Goals as goal
 

@@ -1,5 +1,4 @@
-use Rattle.std.proofs.Common.{◌≤◌, length, arith}
-use Rattle.std.proofs.lemmas.Bool.{ne_eqb}
+use Rattle.std.proofs.{Common.{◌≤◌, length, arith}, lemmas.Bool.ne_eqb}
 use Rattle.tq_syntax.proofs.WordLaws.{return_dropped_at, no_return_at}
 use Rattle.tq_syntax.proofs.word.without_return.Goals as goal
 

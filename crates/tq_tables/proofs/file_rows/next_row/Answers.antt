@@ -1,8 +1,6 @@
 use Rattle.std.specs.Prelude.{IfOk}
 use Rattle.std.proofs.Common.{◌≡◌, true, ◌+◌, ◌<◌, ◌^◌, ℕ, ap, sym, subst, ◌∙◌}
-use Rattle.tq_tables.specs.Parts.{AreOfTree}
-use Rattle.tq_tables.specs.Rows.{row_at, servers_where}
-use Rattle.tq_tables.specs.declared.file_row.FileRow.{FileRow}
+use Rattle.tq_tables.specs.{Parts.AreOfTree, Rows.{row_at, servers_where}, declared.file_row.FileRow.FileRow}
 use Rattle.tq_tables.proofs.Kept.{exact-found, no_row, version-none, version-some}
 use Rattle.tq_tables.proofs.file_rows.next_row.Goals as goal
 

@@ -1,6 +1,5 @@
 use Rattle.std.proofs.Common.{◌≡◌, ◌++◌, ◌+◌, map}
-use Rattle.tq_tables.specs.Rows.{names_of, row_at}
-use Rattle.tq_tables.specs.Files.{version_in}
+use Rattle.tq_tables.specs.{Rows.{names_of, row_at}, Files.version_in}
 use Rattle.tq_tables.proofs.file_rows.rows_of_ops.Given as goal
 
 abbrev pub invariant-loop-file : goal.invariant-loop-file

@@ -1,5 +1,4 @@
-use Rattle.std.proofs.Common.{◌≡◌, ◌+◌, ◌++◌, ◌∷◌, [], map, ap, sym, ◌∙◌, arith}
-use Rattle.std.proofs.lemmas.List.{map-append}
+use Rattle.std.proofs.{Common.{◌≡◌, ◌+◌, ◌++◌, ◌∷◌, [], map, ap, sym, ◌∙◌, arith}, lemmas.List.map-append}
 use Rattle.tq_live.specs.View.{upwards}
 use Rattle.tq_shape.specs.Tree.{Server}
 use Rattle.tq_tables.specs.Rows as spec

@@ -1,5 +1,4 @@
-use Rattle.std.proofs.lemmas.Grind.{common_steps}
-use Rattle.std.proofs.Common.{arith}
+use Rattle.std.proofs.{lemmas.Grind.common_steps, Common.arith}
 use Rattle.tq_text.proofs.print.say_choice.Goals as goal
 
 pub returns-in_ok-push_servers-in-Chosen-clause-text : goal.returns-in_ok-push_servers-in-Chosen-clause-text

@@ -1,5 +1,4 @@
-use Rattle.std.proofs.lemmas.Grind.{common_steps}
-use Rattle.std.proofs.Common.{arith}
+use Rattle.std.proofs.{lemmas.Grind.common_steps, Common.arith}
 use Rattle.tq_text.proofs.print.say_copy.Goals as goal
 
 pub returns-clause-text : goal.returns-clause-text

@@ -1,5 +1,4 @@
-use Rattle.std.proofs.lemmas.Grind.{common_steps}
-use Rattle.std.proofs.Common.{rules, arith}
+use Rattle.std.proofs.{lemmas.Grind.common_steps, Common.{rules, arith}}
 use Rattle.tq_text.proofs.refusals.say_fault.Goals as goal
 
 pub returns-clause-memory : goal.returns-clause-memory

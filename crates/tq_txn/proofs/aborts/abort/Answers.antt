@@ -1,10 +1,7 @@
 use Rattle.std.proofs.Common.{◌∙◌, refl, ap, rules}
 use Rattle.tq_desk.specs.declared.ask.DeskAsk.TheVariants.{Resolve}
-use Rattle.tq_txn.specs.Commits.{abort_end, txn_after_resolve}
-use Rattle.tq_txn.specs.Dialogue.{ended_by}
-use Rattle.tq_txn.specs.Told.{number_of}
-use Rattle.tq_txn.proofs.EndLaws.{abort_on, abort_off}
-use Rattle.tq_txn.proofs.Deskless.{deskless_untold, deskless_abort_end}
+use Rattle.tq_txn.specs.{Commits.{abort_end, txn_after_resolve}, Dialogue.ended_by, Told.number_of}
+use Rattle.tq_txn.proofs.{EndLaws.{abort_on, abort_off}, Deskless.{deskless_untold, deskless_abort_end}}
 use Rattle.tq_txn.proofs.CommitLaws.{ending_answered, ending_refused, levels_still, untold_none}
 use Rattle.tq_txn.proofs.aborts.abort.Goals as goal
 

@@ -1,6 +1,5 @@
 use Rattle.std.proofs.Common.{Err, refl, rules}
-use Rattle.tq_txn.specs.Commits.{commit_end, prepares_line}
-use Rattle.tq_txn.specs.Dialogue.{ended_by}
+use Rattle.tq_txn.specs.{Commits.{commit_end, prepares_line}, Dialogue.ended_by}
 use Rattle.tq_txn.specs.declared.txn.Txn.TheVariants as states
 use Rattle.tq_txn.proofs.CommitLaws.{commit_off, commit_on, decide_off, decide_on, ending_behind, ending_none, ending_voted}
 use Rattle.tq_txn.proofs.Deskless.{deskless_cites, deskless_commit_end, deskless_prepares, deskless_untold}

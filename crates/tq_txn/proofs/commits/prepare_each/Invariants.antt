@@ -1,8 +1,6 @@
 use Rattle.std.proofs.Common.{◌≡◌, List, Option, drop}
 use Rattle.tq_txn_states.specs.Voting.{IsVotedOn, VotingView}
-use Rattle.tq_txn.specs.Dialogue.{LineEnd, Follows}
-use Rattle.tq_txn.specs.Commits.{prepares_line}
-use Rattle.tq_txn.specs.Told.{IsKnown}
+use Rattle.tq_txn.specs.{Dialogue.{LineEnd, Follows}, Commits.prepares_line, Told.IsKnown}
 use Rattle.tq_txn.specs.declared.asker.Exchange.{Exchange}
 use Rattle.tq_txn.specs.declared.txn.Txn.TheVariants as states
 use Rattle.tq_txn.proofs.commits.prepare_each.Given as goal

@@ -1,15 +1,11 @@
 use Rattle.std.proofs.Common.{rules, ◌≡◌, ◌==◌, ◌+◌, ℕ, List, Option, Some, Ok, Err, true, drop, sym, ◌∙◌, subst}
-use Rattle.std.proofs.lemmas.Bool.{and_parts}
-use Rattle.std.proofs.lemmas.List.{drop_all}
-use Rattle.std.specs.List.{list_all}
-use Rattle.std.specs.Prelude.{Result}
+use Rattle.std.proofs.lemmas.{Bool.and_parts, List.drop_all}
+use Rattle.std.specs.{List.list_all, Prelude.Result}
 use Rattle.tq_coterie.specs.Coterie.{numbers_of}
 use Rattle.tq_shape.specs.Tree.{Server}
-use Rattle.tq_txn.specs.Dialogue.{Follows, LineEnd, ended_by}
-use Rattle.tq_txn.specs.Lines.{end_line, ending_line}
+use Rattle.tq_txn.specs.{Dialogue.{Follows, LineEnd, ended_by}, Lines.{end_line, ending_line}}
 use Rattle.tq_txn.specs.declared.fault.LineFault.{LineFault}
-use Rattle.tq_txn.proofs.KnownLaws.{end_grown, grown_along}
-use Rattle.tq_txn.proofs.LineLaws.{ending_off, ending_on, follows_end, left_from}
+use Rattle.tq_txn.proofs.{KnownLaws.{end_grown, grown_along}, LineLaws.{ending_off, ending_on, follows_end, left_from}}
 use Rattle.tq_txn.proofs.endings.end_by.Goals as goal
 
 pub loop-server-preserved : goal.loop-server-preserved

@@ -1,9 +1,7 @@
 use Rattle.std.proofs.Common.{◌≡◌, ◌==◌, List, Option, true, drop}
 use Rattle.std.specs.List.{list_all}
 use Rattle.tq_coterie.specs.Coterie.{numbers_of}
-use Rattle.tq_txn.specs.Dialogue.{LineEnd, Follows}
-use Rattle.tq_txn.specs.Lines.{ending_line}
-use Rattle.tq_txn.specs.Told.{IsEndTold}
+use Rattle.tq_txn.specs.{Dialogue.{LineEnd, Follows}, Lines.ending_line, Told.IsEndTold}
 use Rattle.tq_txn.specs.declared.asker.Exchange.{Exchange}
 use Rattle.tq_txn.proofs.endings.end_by.Given as goal
 

@@ -1,13 +1,8 @@
 use Rattle.std.proofs.Common.{◌≡◌, false, List, Err, refl, ap, ◌∙◌, sym, subst}
-use Rattle.tq_txn_states.specs.Voting.{VotesOnly, VotingView, IsVotedOn, has_vote}
-use Rattle.tq_txn_states.specs.declared.told.NodeTold.{NodeTold}
+use Rattle.tq_txn_states.specs.{Voting.{VotesOnly, VotingView, IsVotedOn, has_vote}, declared.told.NodeTold.NodeTold}
 use Rattle.tq_txn.specs.declared.txn.Txn.TheVariants as states
-use Rattle.tq_txn.specs.Dialogue.{Follows, ended_by, node_exchange}
-use Rattle.tq_txn.specs.Lines.{vote_answer}
-use Rattle.tq_txn.specs.Told.{Knows, answers_in}
-use Rattle.tq_txn.proofs.KnownLaws.{answers_more, knows_grow}
-use Rattle.tq_txn.proofs.EndLaws.{voted_on_same}
-use Rattle.tq_txn.proofs.LineLaws.{told_node, vote_asked}
+use Rattle.tq_txn.specs.{Dialogue.{Follows, ended_by, node_exchange}, Lines.vote_answer, Told.{Knows, answers_in}}
+use Rattle.tq_txn.proofs.{KnownLaws.{answers_more, knows_grow}, EndLaws.voted_on_same, LineLaws.{told_node, vote_asked}}
 use Rattle.tq_txn.proofs.endings.prepare_at.Goals as goal
 
 pub returns-in-Ok-node-clause-asks : goal.returns-in-Ok-node-clause-asks

@@ -1,7 +1,5 @@
 use Rattle.std.proofs.Common.{◌∙◌, refl, sym}
-use Rattle.tq_txn.proofs.KnownLaws.{knows_voted}
-use Rattle.tq_txn.proofs.EndLaws.{voted_on_same, voted_on_after}
-use Rattle.tq_txn.proofs.LineLaws.{vote_refused}
+use Rattle.tq_txn.proofs.{KnownLaws.knows_voted, EndLaws.{voted_on_same, voted_on_after}, LineLaws.vote_refused}
 use Rattle.tq_txn.proofs.endings.take_vote.Goals as goal
 
 pub returns-in-Err-clause-asks : goal.returns-in-Err-clause-asks

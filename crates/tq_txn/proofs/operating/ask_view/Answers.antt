@@ -1,8 +1,6 @@
 use Rattle.std.proofs.Common.{Option, subst, sym}
-use Rattle.tq_txn.specs.Dialogue.{Follows, view_line}
-use Rattle.tq_txn.proofs.LineLaws.{asked_view}
-use Rattle.tq_txn.specs.Script.{view_asked}
-use Rattle.tq_txn.proofs.Following.{follows_passed}
+use Rattle.tq_txn.specs.{Dialogue.{Follows, view_line}, Script.view_asked}
+use Rattle.tq_txn.proofs.{LineLaws.asked_view, Following.follows_passed}
 use Rattle.tq_txn.proofs.operating.ask_view.Goals as goal
 
 pub returns-clause-asks : goal.returns-clause-asks

@@ -1,11 +1,8 @@
 use Rattle.std.proofs.Common.{ℕ, Option, Some, Ok, subst}
-use Rattle.tq_asks.specs.declared.ask.NodeAsk.{NodeAsk}
-use Rattle.tq_asks.specs.declared.ask.NodeReply.{NodeReply}
+use Rattle.tq_asks.specs.declared.ask.{NodeAsk.NodeAsk, NodeReply.NodeReply}
 use Rattle.tq_live.specs.declared.view.ViewAsk.TheVariants.{Mark}
-use Rattle.tq_txn.specs.Dialogue.{LineEnd, Follows, ended_by, line_result, view_line}
-use Rattle.tq_txn.specs.Lines.{any_line}
+use Rattle.tq_txn.specs.{Dialogue.{LineEnd, Follows, ended_by, line_result, view_line}, Lines.any_line, Script.mark_ask}
 use Rattle.tq_txn.proofs.LineLaws.{asked_view, follows_then}
-use Rattle.tq_txn.specs.Script.{mark_ask}
 use Rattle.tq_txn.proofs.operating.mark_server.Goals as goal
 
 pub returns-in-Ok-clause-asks : goal.returns-in-Ok-clause-asks

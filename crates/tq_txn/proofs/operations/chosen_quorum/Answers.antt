@@ -1,5 +1,4 @@
-use Rattle.std.proofs.Common.{◌∙◌, sym, refl}
-use Rattle.std.proofs.lemmas.Bool.{eqb-true}
+use Rattle.std.proofs.{Common.{◌∙◌, sym, refl}, lemmas.Bool.eqb-true}
 use Rattle.tq_txn_states.proofs.GoodGrants.{same_tree}
 use Rattle.tq_txn.proofs.operations.chosen_quorum.Goals as goal
 

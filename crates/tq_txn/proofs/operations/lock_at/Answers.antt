@@ -1,9 +1,7 @@
 use Rattle.std.proofs.Common.{◌∙◌, Some, Ok, subst}
 use Rattle.tq_asks.specs.declared.ask.NodeAsk.{NodeAsk}
 use Rattle.tq_txn.specs.Dialogue.{Follows, node_line}
-use Rattle.tq_txn.proofs.LockingLaws.{asked_lock, heard_at}
-use Rattle.tq_txn.proofs.KnownLaws.{told_last}
-use Rattle.tq_txn.proofs.LineLaws.{told_node}
+use Rattle.tq_txn.proofs.{LockingLaws.{asked_lock, heard_at}, KnownLaws.told_last, LineLaws.told_node}
 use Rattle.tq_txn.proofs.operations.lock_at.Goals as goal
 
 pub returns-in-Ok-clause-asks : goal.returns-in-Ok-clause-asks

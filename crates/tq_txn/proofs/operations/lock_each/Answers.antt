@@ -1,12 +1,10 @@
-use Rattle.std.proofs.Common.{◌≡◌, ◌==◌, ◌+◌, ◌∙◌, ℕ, List, Ok, Err, true, drop, sym, ap, subst}
-use Rattle.std.proofs.lemmas.List.{drop_all}
+use Rattle.std.proofs.{Common.{◌≡◌, ◌==◌, ◌+◌, ◌∙◌, ℕ, List, Ok, Err, true, drop, sym, ap, subst}, lemmas.List.drop_all}
 use Rattle.std.proofs.lemmas.Bool.{and_parts}
 use Rattle.std.specs.List.{list_all}
 use Rattle.tq_coterie.specs.Coterie.{numbers_of}
 use Rattle.tq_shape.specs.Tree.{Server}
 use Rattle.tq_txn.specs.Lines.{IsLocking, lock_ask, locks_line}
-use Rattle.tq_txn.proofs.LineLaws.{left_from}
-use Rattle.tq_txn.proofs.LockingLaws.{locking_none, locking_off, locking_on}
+use Rattle.tq_txn.proofs.{LineLaws.left_from, LockingLaws.{locking_none, locking_off, locking_on}}
 use Rattle.tq_txn.proofs.operations.lock_each.Goals as goal
 
 pub loop-server-preserved : goal.loop-server-preserved

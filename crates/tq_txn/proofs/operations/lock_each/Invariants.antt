@@ -1,11 +1,9 @@
 use Rattle.std.proofs.Common.{◌≡◌, ◌==◌, List, true, drop}
-use Rattle.std.specs.List.{list_all}
-use Rattle.std.specs.Prelude.{Result}
+use Rattle.std.specs.{List.list_all, Prelude.Result}
 use Rattle.tq_coterie.specs.Coterie.{numbers_of}
 use Rattle.tq_evidence.specs.declared.grant.Grant.{Grant}
 use Rattle.tq_txn_states.specs.Open.{OpenView}
-use Rattle.tq_txn.specs.declared.fault.LineFault.{LineFault}
-use Rattle.tq_txn.specs.Lines.{IsLocking, lock_ask, locks_line}
+use Rattle.tq_txn.specs.{declared.fault.LineFault.LineFault, Lines.{IsLocking, lock_ask, locks_line}}
 use Rattle.tq_txn.specs.declared.asker.Exchange.{Exchange}
 use Rattle.tq_txn.proofs.operations.lock_each.Given as goal
 

@@ -1,8 +1,7 @@
 use Rattle.std.proofs.Common.{sym, ap, ◌∙◌, rules}
 use Rattle.std.specs.Option.{option_copied}
 use Rattle.tq_txn.specs.Dialogue.{ended_by}
-use Rattle.tq_txn.proofs.LockingLaws.{unused}
-use Rattle.tq_txn.proofs.LineLaws.{first_of_reads}
+use Rattle.tq_txn.proofs.{LockingLaws.unused, LineLaws.first_of_reads}
 use Rattle.tq_txn.proofs.operations.read_file.Goals as goal
 
 pub returns-in-Some-clause-asks : goal.returns-in-Some-clause-asks

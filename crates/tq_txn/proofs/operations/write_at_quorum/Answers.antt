@@ -3,14 +3,10 @@ use Rattle.std.proofs.Common.{sym, subst, ap, ◌∙◌, ◌+◌, Option, Some, 
 use Rattle.tq_evidence.specs.Evidence.{greatest}
 use Rattle.tq_evidence.specs.declared.op.OpKind.TheVariants as kinds
 use Rattle.tq_locks.specs.declared.mode.Mode.TheVariants.{Exclusive}
-use Rattle.tq_txn_states.specs.Voting.{KeepsOnly, answers_of}
-use Rattle.tq_txn_states.specs.declared.fault.TxnFault.{TxnFault}
+use Rattle.tq_txn_states.specs.{Voting.{KeepsOnly, answers_of}, declared.fault.TxnFault.TxnFault}
 use Rattle.tq_txn_states.specs.Open.{ComesOf, txn_after_op, write_op}
-use Rattle.tq_txn_states.proofs.CitedLaws.{granted_cited}
-use Rattle.tq_txn_states.proofs.GoodGrants.{grants_again, write_as_told}
-use Rattle.tq_txn.specs.Dialogue.{ended_by}
-use Rattle.tq_txn.specs.Lines.{quorum_line, write_end}
-use Rattle.tq_txn.specs.Told.{AreTold, answers_in}
+use Rattle.tq_txn_states.proofs.{CitedLaws.granted_cited, GoodGrants.{grants_again, write_as_told}}
+use Rattle.tq_txn.specs.{Dialogue.ended_by, Lines.{quorum_line, write_end}, Told.{AreTold, answers_in}}
 use Rattle.tq_txn.proofs.LockingLaws.{all_exclusive, same_answers, still_few, still_member, still_unwritten}
 use Rattle.tq_txn.proofs.KnownLaws.{knows_touched, knows_taken, grown_along}
 use Rattle.tq_txn.proofs.LineLaws.{follows_off, follows_on, write_ended, write_refused}

@@ -1,12 +1,8 @@
-use Rattle.std.proofs.Common.{ℕ, List, None, Some, sym, subst, ◌∙◌}
-use Rattle.std.proofs.lemmas.Result.{err_from_is_err_and}
+use Rattle.std.proofs.{Common.{ℕ, List, None, Some, sym, subst, ◌∙◌}, lemmas.Result.err_from_is_err_and}
 use Rattle.std.specs.Option.{IfSome}
-use Rattle.tq_txn.specs.Dialogue.{Ends, Follows}
-use Rattle.tq_txn.proofs.LineLaws.{follows_end, follows_then}
+use Rattle.tq_txn.specs.{Dialogue.{Ends, Follows}, Script.{closing, script_asked}, Told.IsOpenIn}
+use Rattle.tq_txn.proofs.{LineLaws.{follows_end, follows_then}, Following.{follows_cut, next_line, last_line, no_line}}
 use Rattle.tq_syntax.specs.declared.script.Line.{Line}
-use Rattle.tq_txn.specs.Script.{closing, script_asked}
-use Rattle.tq_txn.specs.Told.{IsOpenIn}
-use Rattle.tq_txn.proofs.Following.{follows_cut, next_line, last_line, no_line}
 use Rattle.tq_txn.proofs.running.run_script.Goals as goal
 
 pub close-requires : goal.close-requires

@@ -1,9 +1,6 @@
 use Rattle.std.proofs.Common.{◌≡◌, List, Option, None, drop}
 use Rattle.std.specs.Option.{IfSome}
-use Rattle.tq_txn.specs.declared.asker.Exchange.{Exchange}
-use Rattle.tq_txn.specs.Dialogue.{Follows}
-use Rattle.tq_txn.specs.Script.{script_asked}
-use Rattle.tq_txn.specs.Told.{IsOpenIn}
+use Rattle.tq_txn.specs.{declared.asker.Exchange.Exchange, Dialogue.Follows, Script.script_asked, Told.IsOpenIn}
 use Rattle.tq_txn.proofs.running.run_script.Given as goal
 
 -- whatever the lines that are left ask from now on, all lines ask, with what was told so far before it

@@ -1,9 +1,7 @@
 use Rattle.std.proofs.Common.{Some, Ok, Err, sym, ◌∙◌}
 use Rattle.tq_txn.specs.declared.txn.Txn.TheVariants as states
-use Rattle.tq_txn.specs.Dialogue.{ended_by}
-use Rattle.tq_txn.specs.Lines.{stop_line}
-use Rattle.tq_txn.proofs.KnownLaws.{knows_grow, grown_along}
-use Rattle.tq_txn.proofs.LineLaws.{vote_unstopped}
+use Rattle.tq_txn.specs.{Dialogue.ended_by, Lines.stop_line}
+use Rattle.tq_txn.proofs.{KnownLaws.{knows_grow, grown_along}, LineLaws.vote_unstopped}
 use Rattle.tq_txn.proofs.stops.prepare_stopping.Goals as goal
 
 pub returns-in-Err-stop_at-clause-asks : goal.returns-in-Err-stop_at-clause-asks

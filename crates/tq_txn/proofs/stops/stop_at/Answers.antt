@@ -1,10 +1,7 @@
 use Rattle.std.proofs.Common.{ℕ, Some, None, Ok, subst}
-use Rattle.tq_asks.specs.declared.ask.NodeAsk.TheVariants.{CrashIn}
-use Rattle.tq_asks.specs.declared.ask.WorkAsk.{WorkAsk}
-use Rattle.tq_txn.specs.Dialogue.{Follows, ended_by}
-use Rattle.tq_txn.specs.Lines.{any_line, down_line}
-use Rattle.tq_txn.proofs.LineLaws.{stop_off, stop_on}
-use Rattle.tq_txn.proofs.stops.stop_at.Goals.{in-Ok, in-Err}
+use Rattle.tq_asks.specs.declared.ask.{NodeAsk.TheVariants.CrashIn, WorkAsk.WorkAsk}
+use Rattle.tq_txn.specs.{Dialogue.{Follows, ended_by}, Lines.{any_line, down_line}}
+use Rattle.tq_txn.proofs.{LineLaws.{stop_off, stop_on}, stops.stop_at.Goals.{in-Ok, in-Err}}
 use Rattle.tq_txn.proofs.stops.stop_at.Goals as goal
 
 pub returns-clause-asks : goal.returns-clause-asks

@@ -1,10 +1,7 @@
-use Rattle.std.proofs.Common.{Option, None, Some}
-use Rattle.std.proofs.lemmas.Result.{err_from_is_err_and}
+use Rattle.std.proofs.{Common.{Option, None, Some}, lemmas.Result.err_from_is_err_and}
 use Rattle.tq_txn_states.specs.Open.{OpenView}
-use Rattle.tq_txn.specs.Dialogue.{Ends}
-use Rattle.tq_txn.specs.Commits.{abort_line}
-use Rattle.tq_txn.proofs.LineLaws.{follows_end}
-use Rattle.tq_txn.proofs.Following.{follows_went, follows_went_out}
+use Rattle.tq_txn.specs.{Dialogue.Ends, Commits.abort_line}
+use Rattle.tq_txn.proofs.{LineLaws.follows_end, Following.{follows_went, follows_went_out}}
 use Rattle.tq_txn.proofs.transacting.give_up.Goals as goal
 
 pub returns-in_err-_done-clause-asks : goal.returns-in_err-_done-clause-asks

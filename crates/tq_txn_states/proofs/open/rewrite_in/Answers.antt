@@ -1,6 +1,5 @@
 use Rattle.std.proofs.Common.{sym, ◌∙◌}
-use Rattle.tq_evidence.specs.Evidence.{writes_file}
-use Rattle.tq_evidence.specs.declared.op.Op.{Op}
+use Rattle.tq_evidence.specs.{Evidence.writes_file, declared.op.Op.Op}
 use Rattle.tq_txn_states.proofs.Puts.{set-changed, found-placed}
 use Rattle.tq_txn_states.proofs.open.rewrite_in.Goals as goal
 

@@ -1,8 +1,6 @@
-use Rattle.std.proofs.Common.{◌==◌, ◌∙◌, ℕ, Option, false, nat_lt, sym, ap, rules, arith}
+use Rattle.std.proofs.{Common.{◌==◌, ◌∙◌, ℕ, Option, false, nat_lt, sym, ap, rules, arith}, lemmas.Bool.false≢true}
+use Rattle.std.proofs.lemmas.{Option.slice_get_past, List.Sorted.IsPartitionPoint-from_clause}
 use Rattle.std.specs.Option.{option_map_or}
-use Rattle.std.proofs.lemmas.Bool.{false≢true}
-use Rattle.std.proofs.lemmas.Option.{slice_get_past}
-use Rattle.std.proofs.lemmas.List.Sorted.{IsPartitionPoint-from_clause}
 use Rattle.tq_shape.specs.Tree.{Server}
 use Rattle.tq_txn_states.proofs.Searched.{has-map, none_below, found_at, parted, stands_there}
 use Rattle.tq_txn_states.proofs.servers.place_of.Goals as goal

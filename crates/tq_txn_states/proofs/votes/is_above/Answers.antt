@@ -1,8 +1,7 @@
 use Rattle.std.proofs.Common.{◌∙◌, sym, ap}
 use Rattle.std.specs.Option.{option_copied}
 use Rattle.tq_evidence.specs.declared.vote.Vote.{Vote}
-use Rattle.tq_txn_states.proofs.Searched.{below_last}
-use Rattle.tq_txn_states.proofs.GoodVotes.{votes_rise-map}
+use Rattle.tq_txn_states.proofs.{Searched.below_last, GoodVotes.votes_rise-map}
 use Rattle.tq_txn_states.proofs.votes.is_above.Goals as goal
 
 pub returns-in-Some : goal.returns-in-Some

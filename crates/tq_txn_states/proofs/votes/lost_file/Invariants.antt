@@ -1,6 +1,5 @@
 use Rattle.std.proofs.Common.{◌≡◌, true, drop}
-use Rattle.tq_txn_states.specs.Open.{have_order}
-use Rattle.tq_txn_states.specs.Voting.{lost_file}
+use Rattle.tq_txn_states.specs.{Open.have_order, Voting.lost_file}
 use Rattle.tq_txn_states.proofs.votes.lost_file.Given as goal
 
 abbrev pub invariant-loop-op : goal.invariant-loop-op

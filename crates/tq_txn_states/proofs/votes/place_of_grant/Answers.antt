@@ -1,5 +1,4 @@
-use Rattle.std.proofs.Common.{◌∙◌, nat_lt, sym, rules}
-use Rattle.std.proofs.lemmas.List.Sorted.{IsPartitionPoint-from_clause}
+use Rattle.std.proofs.{Common.{◌∙◌, nat_lt, sym, rules}, lemmas.List.Sorted.IsPartitionPoint-from_clause}
 use Rattle.tq_evidence.specs.declared.grant.Grant.{Grant}
 use Rattle.tq_txn_states.proofs.Searched.{granter_at, parted, stands_there}
 use Rattle.tq_txn_states.proofs.votes.place_of_grant.Goals as goal

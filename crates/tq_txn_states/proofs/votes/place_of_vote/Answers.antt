@@ -1,8 +1,6 @@
-use Rattle.std.proofs.Common.{◌∙◌, nat_lt, sym, rules}
-use Rattle.std.proofs.lemmas.List.Sorted.{IsPartitionPoint-from_clause}
+use Rattle.std.proofs.{Common.{◌∙◌, nat_lt, sym, rules}, lemmas.List.Sorted.IsPartitionPoint-from_clause}
 use Rattle.tq_evidence.specs.declared.vote.Vote.{Vote}
-use Rattle.tq_txn_states.proofs.GoodVotes.{votes_rise-map}
-use Rattle.tq_txn_states.proofs.Searched.{parted}
+use Rattle.tq_txn_states.proofs.{GoodVotes.votes_rise-map, Searched.parted}
 use Rattle.tq_txn_states.proofs.votes.place_of_vote.Goals as goal
 
 pub returns-clause-place : goal.returns-clause-place

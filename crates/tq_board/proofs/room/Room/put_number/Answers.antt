@@ -1,5 +1,4 @@
-use Rattle.std.proofs.Common.{length, arith, length-take, length-drop, ap}
-use Rattle.std.proofs.lemmas.Fmt.{length-decimal-le}
+use Rattle.std.proofs.{Common.{length, arith, length-take, length-drop, ap}, lemmas.Fmt.length-decimal-le}
 use Rattle.tq_board.proofs.room.Room.put_number.Goals as goal
 
 pub write_number-requires : goal.write_number-requires

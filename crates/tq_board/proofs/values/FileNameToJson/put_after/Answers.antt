@@ -1,5 +1,4 @@
-use Rattle.tq_board.proofs.Gathered.{as-quoted}
-use Rattle.tq_board.proofs.ReadBack.{name-ascii, name-escaped, name-short}
+use Rattle.tq_board.proofs.{Gathered.as-quoted, ReadBack.{name-ascii, name-escaped, name-short}}
 use Rattle.tq_board.proofs.values.FileNameToJson.put_after.Goals as goal
 
 pub push_ascii-requires : goal.push_ascii-requires

@@ -1,10 +1,7 @@
-use Rattle.std.proofs.Common.{◌∙◌, codes, refl}
-use Rattle.std.proofs.lemmas.Bool.{false≢true}
+use Rattle.std.proofs.{Common.{◌∙◌, codes, refl}, lemmas.Bool.false≢true}
 use Rattle.clap.specs.Words.{found_of, rows_of, subcommand_rows_of}
 use Rattle.tq_cli.specs.TqdWords.{AreOptions}
-use Rattle.tq_cli.proofs.CommandLaws.{name_found}
-use Rattle.tq_cli.proofs.RuleLaws.{found_as}
-use Rattle.tq_cli.proofs.TqdLaws.{last_rows, no_other}
+use Rattle.tq_cli.proofs.{CommandLaws.name_found, RuleLaws.found_as, TqdLaws.{last_rows, no_other}}
 use Rattle.tq_cli.proofs.tqd_words.TqdWords.of_last.Goals as goal
 
 pub options_of-requires : goal.options_of-requires

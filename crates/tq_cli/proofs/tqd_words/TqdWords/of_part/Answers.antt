@@ -1,11 +1,7 @@
-use Rattle.std.proofs.Common.{◌∙◌, codes, refl, sym}
-use Rattle.std.proofs.lemmas.Bool.{false≢true}
+use Rattle.std.proofs.{Common.{◌∙◌, codes, refl, sym}, lemmas.Bool.false≢true}
 use Rattle.clap.specs.Words.{found_of, rows_of, subcommand_rows_of}
-use Rattle.tq_cli.specs.Command.{IsGiven}
-use Rattle.tq_cli.specs.TqdWords.{AreOptions, CanAskLast, CanBeServer}
-use Rattle.tq_cli.proofs.CommandLaws.{name_found}
-use Rattle.tq_cli.proofs.RuleLaws.{found_as, found_else}
-use Rattle.tq_cli.proofs.TqdLaws.{server_rows}
+use Rattle.tq_cli.specs.{Command.IsGiven, TqdWords.{AreOptions, CanAskLast, CanBeServer}}
+use Rattle.tq_cli.proofs.{CommandLaws.name_found, RuleLaws.{found_as, found_else}, TqdLaws.server_rows}
 use Rattle.tq_cli.proofs.tqd_words.TqdWords.of_part.Goals as goal
 
 pub number_of-requires : goal.number_of-requires

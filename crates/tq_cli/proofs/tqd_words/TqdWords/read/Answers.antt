@@ -1,10 +1,7 @@
 use Rattle.std.proofs.Common.{◌≡◌, ◌∙◌, List, Option, [], sym, ap, subst}
-use Rattle.clap.specs.Kinds.{HasKind}
-use Rattle.clap.specs.Words.{App, Row, Text, fault_of, is_simple, is_simple_and_free, subcommand_of}
-use Rattle.tq_cli.specs.Command.{texts_of}
-use Rattle.tq_cli.specs.TqdWords.{AsksFor, CanAsk, tqd_app}
-use Rattle.tq_cli.proofs.CommandLaws.{refused_by}
-use Rattle.tq_cli.proofs.TqdLaws.{can_ask}
+use Rattle.clap.specs.{Kinds.HasKind, Words.{App, Row, Text, fault_of, is_simple, is_simple_and_free, subcommand_of}}
+use Rattle.tq_cli.specs.{Command.texts_of, TqdWords.{AsksFor, CanAsk, tqd_app}}
+use Rattle.tq_cli.proofs.{CommandLaws.refused_by, TqdLaws.can_ask}
 use Rattle.tq_cli.proofs.tqd_words.TqdWords.read.Goals as goal
 
 pub of-requires : goal.of-requires

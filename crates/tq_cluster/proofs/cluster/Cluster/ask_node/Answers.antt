@@ -1,17 +1,13 @@
-use Rattle.std.proofs.Math.Path.{transport}
+use Rattle.std.proofs.{Math.Path.transport, lemmas.List.length-set}
 use Rattle.std.proofs.Common.{◌<◌, ◌-◌, ◌∙◌, ◌++◌, ◌∷◌, [], Ok, ℕ, length, rules, set, ap, sym, subst, arith}
 use Rattle.tq_shape.specs.Tree.{IsServer}
 use Rattle.tq_shape.specs.declared.part.Part.TheVariants as parts
-use Rattle.tq_cluster.specs.Told.{AreOfParts, CallerView, IsToldByServer}
-use Rattle.std.proofs.lemmas.List.{length-set}
-use Rattle.tq_cluster.proofs.Callers.{server_told}
-use Rattle.tq_txn.specs.declared.asker.Exchange.TheVariants as exchanges
-use Rattle.tq_cluster.specs.Cluster.{ClusterView}
-use Rattle.tq_cluster.proofs.Closing.{named_by}
+use Rattle.tq_cluster.specs.{Told.{AreOfParts, CallerView, IsToldByServer}, Cluster.ClusterView}
+use Rattle.tq_cluster.proofs.{Callers.server_told, Closing.named_by, cluster.Cluster.ask_node.Given.Over}
 use Rattle.tq_cluster.proofs.Seen.{SawOne, asked_none, asked_others, asked_seen, on_err, seeing, server_saw}
-use Rattle.tq_cluster.proofs.cluster.Cluster.ask_node.Given.{Over}
-use Rattle.tq_cluster.proofs.cluster.Cluster.ask_node.Goals as goal
 use Rattle.tq_cluster.proofs.cluster.Cluster.ask_node.Goals.{After-ask_part}
+use Rattle.tq_txn.specs.declared.asker.Exchange.TheVariants as exchanges
+use Rattle.tq_cluster.proofs.cluster.Cluster.ask_node.Goals as goal
 
 -- the caller, by the pass of the server, which was asked
 abbrev after : (g : Over) → After-ask_part g → CallerView

@@ -1,5 +1,4 @@
-use Rattle.std.proofs.Math.Path.{transport}
-use Rattle.std.proofs.Common.{◌++◌, ◌∙◌, ◌∷◌, [], Ok, ap, sym, subst}
+use Rattle.std.proofs.{Math.Path.transport, Common.{◌++◌, ◌∙◌, ◌∷◌, [], Ok, ap, sym, subst}}
 use Rattle.tq_txn.specs.declared.asker.Exchange.TheVariants as exchanges
 use Rattle.tq_cluster.specs.Told.{AreOfParts, CallerView, IsToldByView}
 use Rattle.tq_cluster.proofs.Callers.{view_told}

@@ -1,10 +1,8 @@
 use Rattle.std.proofs.Common.{◌≡◌, ◌∙◌, List, map, ap, sym, subst}
 use Rattle.tq_txn.specs.declared.asker.Exchange.{Exchange}
-use Rattle.tq_merge.specs.Told.{IsCloseFault, AreKept, unclaimed}
+use Rattle.tq_merge.specs.{Told.{IsCloseFault, AreKept, unclaimed}, Order.{Explains, asks_of}}
 use Rattle.tq_tables.specs.Journals.{JournalsView}
-use Rattle.tq_core.specs.Steps.{run}
-use Rattle.tq_core.specs.Headline.{HasCommittedReads}
-use Rattle.tq_merge.specs.Order.{Explains, asks_of}
+use Rattle.tq_core.specs.{Steps.run, Headline.HasCommittedReads}
 use Rattle.tq_cluster.proofs.Closing.{closed_by}
 use Rattle.tq_cluster.proofs.cluster.Cluster.close.Goals as goal
 

@@ -1,7 +1,6 @@
 use Rattle.std.proofs.Common.{subst}
 use Rattle.std.specs.Option.{MatchOption}
-use Rattle.tq_tables.specs.Journals.{JournalsView}
-use Rattle.tq_tables.specs.Parts.{AreLegal}
+use Rattle.tq_tables.specs.{Journals.JournalsView, Parts.AreLegal}
 use Rattle.tq_mirror.specs.Prefixes.{AllBegin, IsFirstAstray}
 use Rattle.tq_cluster.proofs.Closing.{over_prefixes}
 use Rattle.tq_cluster.proofs.explained.Explained.begins.Goals as goal

@@ -2,10 +2,8 @@ use Rattle.std.proofs.Common.{◌∙◌, ◌-◌, ◌^◌, [], ◌∷◌, Err, i
 use Rattle.tq_shape.specs.declared.part.Part.TheVariants as parts
 use Rattle.tq_tables.specs.Journals.{JournalsView}
 use Rattle.tq_mirror.specs.Prefixes.{IsPullFault}
-use Rattle.tq_cluster.specs.Told.{CallerView, seen_of}
-use Rattle.tq_cluster.specs.Rounds.{Continues, servers_from}
-use Rattle.tq_cluster.proofs.Seen.{sees-on-after}
-use Rattle.tq_cluster.proofs.Pulled.{continues-grown, continues-after, seen-after}
+use Rattle.tq_cluster.specs.{Told.{CallerView, seen_of}, Rounds.{Continues, servers_from}}
+use Rattle.tq_cluster.proofs.{Seen.sees-on-after, Pulled.{continues-grown, continues-after, seen-after}}
 use Rattle.tq_cluster.proofs.Came.{before-desk, came, ended-after, ended-at, goes-after, goes-grown, goes-same, rises}
 use Rattle.tq_cluster.proofs.InTurn.{is-pulled, is-not-pulled, last-pulled, not-all-pulled, then-pulled}
 use Rattle.tq_cluster.proofs.live_board.LiveBoard.pull.Goals as goal

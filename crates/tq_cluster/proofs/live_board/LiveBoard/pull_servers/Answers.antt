@@ -3,8 +3,7 @@ use Rattle.tq_shape.specs.Tree.{IsServer}
 use Rattle.tq_shape.specs.declared.part.Part.TheVariants as parts
 use Rattle.tq_tables.specs.Journals.{JournalsView}
 use Rattle.tq_mirror.specs.Prefixes.{IsPullFault}
-use Rattle.tq_cluster.specs.Told.{CallerView, seen_of}
-use Rattle.tq_cluster.specs.Rounds.{ArePulled, Continues, servers_from}
+use Rattle.tq_cluster.specs.{Told.{CallerView, seen_of}, Rounds.{ArePulled, Continues, servers_from}}
 use Rattle.tq_cluster.proofs.Seen.{sees-on-same, sees-on-after}
 use Rattle.tq_cluster.proofs.Pulled.{continues-same, continues-grown, servers-next}
 use Rattle.tq_cluster.proofs.Came.{before-server, came, ended-at, goes-grown, goes-same, rises, saw-same}

@@ -1,6 +1,5 @@
 use Rattle.std.proofs.Common.{◌≡◌, ◌≤◌, ◌-◌, ◌^◌, Ok}
-use Rattle.tq_cluster.specs.Told.{SeesOn}
-use Rattle.tq_cluster.specs.Rounds.{ArePulled, Continues, HasSeenServers, SawWhatCame, servers_from}
+use Rattle.tq_cluster.specs.{Told.SeesOn, Rounds.{ArePulled, Continues, HasSeenServers, SawWhatCame, servers_from}}
 use Rattle.tq_cluster.proofs.live_board.LiveBoard.pull_servers.Given as goal
 
 -- the servers so far were pulled, and the board has what the caller has seen of them

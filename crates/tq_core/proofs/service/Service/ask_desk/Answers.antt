@@ -1,6 +1,5 @@
 use Rattle.std.proofs.Common.{◌∙◌, ◌++◌, [], ◌∷◌, ℕ, List, ap, length, refl, subst, sym}
-use Rattle.tq_shape.specs.Journal.{entry}
-use Rattle.tq_shape.specs.declared.part.Part.TheVariants.{Desk}
+use Rattle.tq_shape.specs.{Journal.entry, declared.part.Part.TheVariants.Desk}
 use Rattle.tq_desk.specs.DeskJournal.{DeskEntry}
 use Rattle.tq_tables.specs.Journals.{JournalsView}
 use Rattle.tq_core.specs.declared.answer.Step.TheVariants as steps

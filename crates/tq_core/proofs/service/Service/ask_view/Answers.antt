@@ -1,9 +1,7 @@
 use Rattle.std.proofs.Common.{None, ◌∙◌, ◌+◌, ◌++◌, [], ◌∷◌, List, ap, length, refl}
 use Rattle.std.specs.Prelude.{Ok}
-use Rattle.tq_shape.specs.Journal.{entry}
-use Rattle.tq_shape.specs.declared.part.Part.TheVariants.{View}
-use Rattle.tq_tables.specs.Journals.{JournalsView, ViewEntry}
-use Rattle.tq_tables.specs.Reserved.{unready}
+use Rattle.tq_shape.specs.{Journal.entry, declared.part.Part.TheVariants.View}
+use Rattle.tq_tables.specs.{Journals.{JournalsView, ViewEntry}, Reserved.unready}
 use Rattle.tq_core.specs.declared.answer.Reply.TheVariants as replies
 use Rattle.tq_core.specs.declared.answer.Step.TheVariants as steps
 use Rattle.tq_core.specs.Steps.{refuse_entry}

@@ -1,6 +1,5 @@
 use Rattle.std.proofs.Common.{◌∙◌, rules, sym}
-use Rattle.tq_core.proofs.Legal.{legal_run}
-use Rattle.tq_core.proofs.Committed.{reads_of_run, seen_run}
+use Rattle.tq_core.proofs.{Legal.legal_run, Committed.{reads_of_run, seen_run}}
 use Rattle.tq_core.proofs.service.Service.into_journals.Goals as goal
 
 pub returns-clause-value : goal.returns-clause-value

@@ -1,7 +1,6 @@
 use Rattle.std.proofs.Common.{◌∙◌, ap, sym}
 use Rattle.tq_tables.specs.Tables.{tables_of}
-use Rattle.tq_core.proofs.Legal.{legal_run}
-use Rattle.tq_core.proofs.Committed.{seen_run}
+use Rattle.tq_core.proofs.{Legal.legal_run, Committed.seen_run}
 use Rattle.tq_core.proofs.service.Service.resume.Goals as goal
 
 pub of-requires : goal.of-requires

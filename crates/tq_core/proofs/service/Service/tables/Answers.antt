@@ -1,7 +1,6 @@
 use Rattle.std.proofs.Common.{ap, ◌∙◌}
 use Rattle.tq_tables.specs.Tables.{tables_of}
-use Rattle.tq_core.proofs.Legal.{headline}
-use Rattle.tq_core.proofs.Committed.{reads_of_run, seen_run}
+use Rattle.tq_core.proofs.{Legal.headline, Committed.{reads_of_run, seen_run}}
 use Rattle.tq_core.proofs.service.Service.tables.Goals as goal
 
 pub returns-clause-value : goal.returns-clause-value

@@ -1,8 +1,6 @@
-use Rattle.std.proofs.Common.{◌∙◌, arith}
-use Rattle.std.proofs.lemmas.List.{length_push}
-use Rattle.tq_core.proofs.Committed.{reads_of_run, reads_of_more, seen_run}
+use Rattle.std.proofs.{Common.{◌∙◌, arith}, lemmas.List.length_push}
+use Rattle.tq_core.proofs.{Committed.{reads_of_run, reads_of_more, seen_run}, Runs.{told-next, run-next}}
 use Rattle.tq_core.specs.Steps.{taken_steps}
-use Rattle.tq_core.proofs.Runs.{told-next, run-next}
 use Rattle.tq_core.proofs.service.Service.take.Goals as goal
 
 pub loop-step-preserved : goal.loop-step-preserved

@@ -1,5 +1,4 @@
-use Rattle.std.proofs.Common.{◌-◌, ◌*◌, ◌^◌, ◌%◌, arith}
-use Rattle.std.proofs.lemmas.Nat.{one_shl, and_le_l, leading_top}
+use Rattle.std.proofs.{Common.{◌-◌, ◌*◌, ◌^◌, ◌%◌, arith}, lemmas.Nat.{one_shl, and_le_l, leading_top}}
 use Rattle.tq_coterie.proofs.Marked.{looked-first, looked-more, looked-last}
 use Rattle.tq_coterie.proofs.marks.Marks.last_below.Goals as goal
 

@@ -1,8 +1,8 @@
 use Rattle.std.proofs.Common.{◌≡◌, ap, ◌∙◌}
 use Rattle.std.specs.FinMap as fin
 use Rattle.tq_desk.proofs.NewFiles.{one_numbered}
-use Rattle.tq_desk.proofs.finals.Finals.keep.Goals as goal
 use Rattle.tq_desk.proofs.finals.Finals.keep.Goals.{in-Some+in-Commit-1, in-Some+in-Abort-1, in-None-1}
+use Rattle.tq_desk.proofs.finals.Finals.keep.Goals as goal
 
 pub returns-clause-finals : goal.returns-clause-finals
 returns-clause-finals c =

@@ -1,6 +1,5 @@
 use Rattle.std.proofs.Common.{◌≡◌, ◌<◌, true, List, [], ◌∷◌, length, refl, arith}
-use Rattle.tq_evidence.specs.declared.vote.Vote.{Vote}
-use Rattle.tq_evidence.specs.Evidence.{votes_rise}
+use Rattle.tq_evidence.specs.{declared.vote.Vote.Vote, Evidence.votes_rise}
 use Rattle.tq_evidence.proofs.evidence.coverage.+votes_rise.Goals as goal
 
 one : (votes : List Vote) → length votes < 2 → true ≡ votes_rise votes

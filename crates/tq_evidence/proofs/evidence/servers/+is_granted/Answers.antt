@@ -1,6 +1,5 @@
-use Rattle.std.proofs.Common.{◌≡◌, ℕ, ◌<◌, ◌≤◌, ◌/◌, false, length, rules, arith, ◌∙◌}
+use Rattle.std.proofs.{Common.{◌≡◌, ℕ, ◌<◌, ◌≤◌, ◌/◌, false, length, rules, arith, ◌∙◌}, lemmas.Bool.Decides.nat_tests}
 use Rattle.std.specs.Bool.{◌==◌}
-use Rattle.std.proofs.lemmas.Bool.Decides.{nat_tests}
 use Rattle.tq_evidence.proofs.Merging.{is_granter-at, is_granter-lower, is_granter-upper, rises-lower, rises-upper}
 use Rattle.tq_evidence.proofs.evidence.servers.+is_granted.Goals as goal
 

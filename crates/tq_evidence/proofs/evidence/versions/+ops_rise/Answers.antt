@@ -1,6 +1,5 @@
 use Rattle.std.proofs.Common.{◌≡◌, ◌<◌, true, List, [], ◌∷◌, length, refl, arith}
-use Rattle.tq_evidence.specs.declared.op.Op.{Op}
-use Rattle.tq_evidence.specs.Evidence.{ops_rise}
+use Rattle.tq_evidence.specs.{declared.op.Op.Op, Evidence.ops_rise}
 use Rattle.tq_evidence.proofs.evidence.versions.+ops_rise.Goals as goal
 
 one : (ops : List Op) → length ops < 2 → true ≡ ops_rise ops

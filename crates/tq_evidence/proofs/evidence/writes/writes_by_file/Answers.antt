@@ -1,7 +1,5 @@
-use Rattle.std.proofs.Common.{◌≡◌, ◌∙◌, ap, [], Bor, fold, rules}
-use Rattle.std.proofs.lemmas.Fn.{always_returns_same}
-use Rattle.tq_evidence.specs.declared.op.Op.{Op}
-use Rattle.tq_evidence.specs.Evidence.{put_op}
+use Rattle.std.proofs.{Common.{◌≡◌, ◌∙◌, ap, [], Bor, fold, rules}, lemmas.Fn.always_returns_same}
+use Rattle.tq_evidence.specs.{declared.op.Op.Op, Evidence.put_op}
 use Rattle.tq_evidence.proofs.StableSort.{sorted-put}
 use Rattle.tq_evidence.proofs.evidence.writes.writes_by_file.Goals as goal
 

@@ -1,6 +1,5 @@
 use Rattle.std.proofs.Common.{◌≡◌, ◌++◌, Some, sym, ap, subst, ◌∙◌, rules}
-use Rattle.tq_shape.specs.Journal.{entry}
-use Rattle.tq_shape.specs.Agrees.{next_number, state_after_entry}
+use Rattle.tq_shape.specs.{Journal.entry, Agrees.{next_number, state_after_entry}}
 use Rattle.tq_host.specs.Lines.{IsLine}
 use Rattle.tq_host.proofs.batch.Batch.enter.Goals as goal
 

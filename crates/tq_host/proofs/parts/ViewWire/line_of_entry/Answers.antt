@@ -1,6 +1,5 @@
-use Rattle.std.proofs.Common.{sym, subst}
+use Rattle.std.proofs.{Common.{sym, subst}, lemmas.Str.IsUtf8-string_bytes}
 use Rattle.tq_live.specs.ViewLaws.{IsOfTree, reply_of_tree}
-use Rattle.std.proofs.lemmas.Str.{IsUtf8-string_bytes}
 use Rattle.tq_shape.specs.Journal.{entry}
 use Rattle.tq_board.proofs.Laws.{view-line-back}
 use Rattle.tq_host.proofs.parts.ViewWire.line_of_entry.Goals as goal

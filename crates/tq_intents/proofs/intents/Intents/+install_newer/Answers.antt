@@ -1,11 +1,8 @@
 use Rattle.std.proofs.Common.{◌≡◌, ◌<◌, ◌++◌, ◌∷◌, [], false, true, OnOk, List, arith, length, map, ap, subst, sym, get_or, ◌-◌, ◌∙◌, rules, append_assoc}
-use Rattle.std.proofs.lemmas.Bool.Decides.{nat_tests}
-use Rattle.std.proofs.lemmas.List.{append-nil, get_or_default, map-append}
+use Rattle.std.proofs.lemmas.{Bool.Decides.nat_tests, List.{append-nil, get_or_default, map-append}}
 use Rattle.tq_store.specs.Copies.{Files, copies_after_install, copy_in, installed_all, is_newer}
 use Rattle.tq_store.specs.declared.write.Write.{Write}
-use Rattle.tq_intents.specs.Kept.{newer_first}
-use Rattle.tq_intents.specs.Sharing.{write_at}
-use Rattle.tq_intents.specs.declared.record.Record.{Record}
+use Rattle.tq_intents.specs.{Kept.newer_first, Sharing.write_at, declared.record.Record.Record}
 use Rattle.tq_intents.specs.declared.record.Record.TheVariants.{Copy}
 use Rattle.tq_intents.proofs.CopiesPush.{newer_first-last, installed_all-push}
 use Rattle.tq_intents.proofs.intents.Intents.+install_newer.Goals as goal

@@ -1,7 +1,6 @@
 use Rattle.std.proofs.Common.{◌++◌, ap, sym, subst, ◌∙◌}
 use Rattle.tq_intents.specs.Kept.{IsUnfinished, kept_copies, kept_votes}
-use Rattle.tq_intents.proofs.CopiesPush.{kept_copies-others}
-use Rattle.tq_intents.proofs.DeadRecords.{IsIndex-dead, dead_copies, kept_votes-dead}
+use Rattle.tq_intents.proofs.{CopiesPush.kept_copies-others, DeadRecords.{IsIndex-dead, dead_copies, kept_votes-dead}}
 use Rattle.tq_intents.proofs.intents.Intents.push_unfinished.Goals as goal
 
 pub invariant_of-self-2 : goal.invariant_of-self-2

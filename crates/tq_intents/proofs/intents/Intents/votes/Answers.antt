@@ -1,8 +1,6 @@
 use Rattle.std.proofs.Common.{ap, sym, ◌∙◌}
-use Rattle.std.specs.Cmp.{nat_cmp_total}
+use Rattle.std.specs.{Cmp.nat_cmp_total, FinMap.{nat_cmp-IsAntisymmetric, same_map}, Ordering.nat_cmp}
 use Rattle.std.specs.FinMap as fin
-use Rattle.std.specs.FinMap.{nat_cmp-IsAntisymmetric, same_map}
-use Rattle.std.specs.Ordering.{nat_cmp}
 use Rattle.tq_locks.proofs.Found.{entries-from_ordered, get_entry}
 use Rattle.tq_intents.specs.Kept.{kept_votes}
 use Rattle.tq_intents.proofs.intents.Intents.votes.Goals as goal

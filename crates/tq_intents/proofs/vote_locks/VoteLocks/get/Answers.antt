@@ -1,6 +1,5 @@
 use Rattle.std.proofs.Common.{◌≡◌, ◌<◌, ℕ, List, length, get_or, rules, ap, sym, subst, ◌∙◌}
-use Rattle.tq_intents.specs.Sharing.{lock_at}
-use Rattle.tq_intents.specs.declared.record.KeptLock.{KeptLock}
+use Rattle.tq_intents.specs.{Sharing.lock_at, declared.record.KeptLock.KeptLock}
 use Rattle.tq_intents.proofs.KeptLocks.{get_or-kept_each, within-versions}
 use Rattle.tq_intents.proofs.vote_locks.VoteLocks.get.Goals as goal
 

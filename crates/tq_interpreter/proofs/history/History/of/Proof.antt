@@ -33,8 +33,7 @@ use denote.Triple.Entry.{on_entry, alive}
 use denote.Triple.Spec.{Meets, triple_of}
 use denote.Triple.Table.{entered}
 use denote.Triple.Walked.{says, Stays, stay_dropped, walk_of, ends_at, Goes-dropped, walk_Meets}
-use Rattle.tq_interpreter.specs.contracts.history.History.of.{ended, clauses}
-use Rattle.tq_interpreter.specs.contracts.history.History.of.Key.{name as #self}
+use Rattle.tq_interpreter.specs.contracts.history.History.{of.{ended, clauses}, of.Key.name as #self}
 use Rattle.tq_interpreter.proofs.history.History.of.Statement as stated
 use Rattle.tq_interpreter.proofs.history.History.of.Code as code
 

@@ -1,7 +1,6 @@
 use Rattle.std.proofs.Common.{◌∙◌, ◌++◌, List, ap, sym, subst}
-use Rattle.tq_txn.specs.Told.{answers_in}
+use Rattle.tq_txn.specs.{Told.answers_in, declared.asker.Exchange.Exchange}
 use Rattle.tq_txn_states.specs.Voting.{CitesOnly}
-use Rattle.tq_txn.specs.declared.asker.Exchange.{Exchange}
 use Rattle.tq_txn.specs.declared.asker.Exchange.TheVariants as exchanges
 use Rattle.tq_interpreter.specs.Recorded.{RecorderView, IsReplayed, told_exchanges}
 use Rattle.tq_interpreter.proofs.Recording.{asked_desk, founded_by}

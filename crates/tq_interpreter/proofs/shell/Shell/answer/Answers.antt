@@ -1,9 +1,6 @@
-use Rattle.std.proofs.Common.{◌≡◌, ◌∙◌, ◌<◌, ◌+◌, ◌++◌, length, ap, sym, subst}
-use Rattle.std.proofs.lemmas.List.Elements.{All-set}
+use Rattle.std.proofs.{Common.{◌≡◌, ◌∙◌, ◌<◌, ◌+◌, ◌++◌, length, ap, sym, subst}, lemmas.List.Elements.All-set}
 use Rattle.tq_syntax.specs.declared.line.Line.TheVariants as lines
-use Rattle.tq_interpreter.specs.declared.txn_slot.TxnSlot.{TxnSlot}
-use Rattle.tq_interpreter.specs.Answer.{World, answer}
-use Rattle.tq_interpreter.specs.Known.{IsKept}
+use Rattle.tq_interpreter.specs.{declared.txn_slot.TxnSlot.TxnSlot, Answer.{World, answer}, Known.IsKept}
 use Rattle.tq_interpreter.proofs.ShellLines.{are_kept_on, txn_answered}
 use Rattle.tq_interpreter.proofs.shell.Shell.answer.Goals as goal
 

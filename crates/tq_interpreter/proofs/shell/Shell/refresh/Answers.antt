@@ -1,6 +1,5 @@
 use Rattle.std.proofs.Common.{◌∙◌, ◌++◌, ap}
-use Rattle.tq_interpreter.specs.Answer.{World, answer}
-use Rattle.tq_interpreter.specs.Known.{Known}
+use Rattle.tq_interpreter.specs.{Answer.{World, answer}, Known.Known}
 use Rattle.tq_syntax.specs.declared.line.Line.TheVariants.{Refresh}
 use Rattle.tq_interpreter.proofs.ShellLines.{refresh_answered, shell_on}
 use Rattle.tq_interpreter.proofs.shell.Shell.refresh.Goals as goal

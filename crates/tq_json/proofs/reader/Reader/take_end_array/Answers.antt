@@ -1,6 +1,5 @@
 use Rattle.std.proofs.Common.{◌≡◌, ◌∷◌, true, sym, ap, inr, ◌∙◌}
-use Rattle.json.specs.Token.{end_array}
-use Rattle.json.specs.Json.{after_end_array}
+use Rattle.json.specs.{Token.end_array, Json.after_end_array}
 use Rattle.tq_json.specs.Plain.{closes_at}
 use Rattle.tq_json.proofs.Marks.{not_closed, refused_no_end, no_end_array, end_array_taken, taken, not_ended}
 use Rattle.tq_json.proofs.reader.Reader.take_end_array.Goals as goal

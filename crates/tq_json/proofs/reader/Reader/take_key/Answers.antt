@@ -1,8 +1,7 @@
 use Rattle.std.proofs.Common.{◌≡◌, true, sym, ◌∙◌}
 use Rattle.json.specs.Token.{key}
-use Rattle.tq_json.specs.Plain.{IsQuoted, begins_at}
+use Rattle.tq_json.specs.{Plain.{IsQuoted, begins_at}, declared.reader.Place.TheVariants.Fresh}
 use Rattle.tq_json.proofs.Marks.{goes_where_begins, key_taken, taken}
-use Rattle.tq_json.specs.declared.reader.Place.TheVariants.{Fresh}
 use Rattle.tq_json.proofs.reader.Reader.take_key.Goals as goal
 
 pub returns : goal.returns

@@ -1,12 +1,9 @@
 use Rattle.std.proofs.Common.{◌≡◌, ◌+◌, true, length, drop, sym, ap, subst, ◌∙◌, arith}
 use Rattle.std.proofs.lemmas.Str.{IsCharBoundary-after_ascii}
 use Rattle.std.specs.Str.{IsCharBoundary, IsUtf8}
-use Rattle.json.specs.Token.{key}
-use Rattle.json.specs.Lex.{between, lex}
-use Rattle.tq_json.specs.Plain.{IsKeyFirst, begins_at}
-use Rattle.tq_json.specs.declared.reader.Place.TheVariants.{Fresh}
-use Rattle.tq_json.proofs.Lexemes.{key_quoted, colon_behind, behind_key}
-use Rattle.tq_json.proofs.Marks.{goes_where_begins, key_taken, taken}
+use Rattle.json.specs.{Token.key, Lex.{between, lex}}
+use Rattle.tq_json.specs.{Plain.{IsKeyFirst, begins_at}, declared.reader.Place.TheVariants.Fresh}
+use Rattle.tq_json.proofs.{Lexemes.{key_quoted, colon_behind, behind_key}, Marks.{goes_where_begins, key_taken, taken}}
 use Rattle.tq_json.proofs.reader.Reader.take_key_named.Goals as goal
 
 pub range_from-requires : goal.range_from-requires

@@ -1,7 +1,6 @@
 use Rattle.std.proofs.Common.{Some, ◌∙◌}
 use Rattle.serde_json.specs.Data.{Data}
-use Rattle.tq_json_read.proofs.Held.{listed-journal}
-use Rattle.tq_json_read.proofs.Places.{found_as}
+use Rattle.tq_json_read.proofs.{Held.listed-journal, Places.found_as}
 use Rattle.tq_json_read.proofs.file.SeqFromReader.read.Goals as goal
 
 pub returns-clause-ok : goal.returns-clause-ok

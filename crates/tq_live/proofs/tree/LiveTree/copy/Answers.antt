@@ -1,5 +1,4 @@
-use Rattle.std.proofs.Common.{◌-◌, ◌≤◌, arith}
-use Rattle.std.proofs.Math.Pow.{pow_mono}
+use Rattle.std.proofs.{Common.{◌-◌, ◌≤◌, arith}, Math.Pow.pow_mono}
 use Rattle.tq_live.proofs.Repair.{complete-leaves}
 use Rattle.tq_live.proofs.tree.LiveTree.copy.Goals as goal
 

@@ -1,11 +1,8 @@
 use Rattle.std.proofs.Common.{ap, sym, ◌∙◌, Some}
-use Rattle.tq_shape.specs.Tree.{height_of}
-use Rattle.tq_shape.specs.ServerSet.{Ascends, Servers}
+use Rattle.tq_shape.specs.{Tree.height_of, ServerSet.{Ascends, Servers}}
 use Rattle.tq_coterie.proofs.Members.{member-set}
-use Rattle.tq_live.specs.Kept.{cost_for, allowed_for, found_set, found_in}
-use Rattle.tq_live.specs.Least.{with_all}
-use Rattle.tq_live.proofs.Found.{some_is, least_member-in}
-use Rattle.tq_live.proofs.Collecting.{with_all-none}
+use Rattle.tq_live.specs.{Kept.{cost_for, allowed_for, found_set, found_in}, Least.with_all}
+use Rattle.tq_live.proofs.{Found.{some_is, least_member-in}, Collecting.with_all-none}
 use Rattle.tq_live.proofs.Whole.{StandsAt-IsAt, found_in-IsAt}
 use Rattle.tq_live.proofs.tree.LiveTree.gather_into.Goals as goal
 

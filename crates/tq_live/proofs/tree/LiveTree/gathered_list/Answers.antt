@@ -1,5 +1,4 @@
-use Rattle.std.proofs.Common.{◌≡◌, ap, sym, ◌∙◌, Some, List, ℕ}
-use Rattle.std.proofs.lemmas.Result.{IfOk-weaker}
+use Rattle.std.proofs.{Common.{◌≡◌, ap, sym, ◌∙◌, Some, List, ℕ}, lemmas.Result.IfOk-weaker}
 use Rattle.tq_shape.specs.Tree.{Server}
 use Rattle.tq_coterie.specs.Coterie.{numbers_of, servers_of}
 use Rattle.tq_coterie.proofs.Parts.{numbers_of-servers_of}

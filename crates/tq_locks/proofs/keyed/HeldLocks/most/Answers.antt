@@ -1,8 +1,6 @@
-use Rattle.std.proofs.Common.{◌≤◌, List, drop, length, subst, arith}
-use Rattle.std.proofs.lemmas.List.{length-drop}
+use Rattle.std.proofs.{Common.{◌≤◌, List, drop, length, subst, arith}, lemmas.List.length-drop}
 use Rattle.slab.specs.Slab.{get}
-use Rattle.tq_locks.specs.Locks.{LockKey}
-use Rattle.tq_locks.specs.declared.mode.Lock.{Lock}
+use Rattle.tq_locks.specs.{Locks.LockKey, declared.mode.Lock.Lock}
 use Rattle.tq_locks.proofs.Listed.{told_most}
 use Rattle.tq_locks.proofs.keyed.HeldLocks.most.Goals as goal
 

@@ -1,8 +1,6 @@
 use Rattle.std.proofs.Common.{IfNone, refl, sym, subst, ◌∙◌}
-use Rattle.tq_locks.specs.Locks.{only_stable, AreStable}
-use Rattle.tq_locks.specs.Kept.{locks_in, Agrees}
-use Rattle.tq_locks.proofs.Applied.{Agrees-same}
-use Rattle.tq_locks.proofs.Changed.{only_stable-all, key_of_lock}
+use Rattle.tq_locks.specs.{Locks.{only_stable, AreStable}, Kept.{locks_in, Agrees}}
+use Rattle.tq_locks.proofs.{Applied.Agrees-same, Changed.{only_stable-all, key_of_lock}}
 use Rattle.tq_locks.proofs.keyed.KeyedLocks.drop_unstable.Goals as goal
 
 pub returns : goal.returns

@@ -1,7 +1,6 @@
 use Rattle.std.proofs.Common.{◌≡◌}
 use Rattle.slab.specs.Slab.{slab_len}
-use Rattle.tq_locks.specs.Locks.{only_stable}
-use Rattle.tq_locks.specs.Kept.{locks_in, Agrees}
+use Rattle.tq_locks.specs.{Locks.only_stable, Kept.{locks_in, Agrees}}
 use Rattle.tq_locks.proofs.keyed.KeyedLocks.drop_unstable.Given as goal
 
 -- the stable ones stay

@@ -1,7 +1,6 @@
 use Rattle.std.proofs.Common.{◌≡◌, ◌++◌, ℕ, map}
 use Rattle.slab.specs.Slab.{values}
-use Rattle.tq_locks.specs.declared.mode.Lock.{Lock}
-use Rattle.tq_locks.specs.Locks.{LockKey}
+use Rattle.tq_locks.specs.{declared.mode.Lock.Lock, Locks.LockKey}
 use Rattle.tq_locks.proofs.keyed.KeyedLocks.entries_by_key.Given as goal
 
 abbrev pub invariant-loop-key : goal.invariant-loop-key

@@ -1,9 +1,7 @@
 use Rattle.std.proofs.Common.{◌≡◌, sym, subst, refl, ◌∙◌, Some, nat_eq}
 use Rattle.slab.specs.Slab.{Updates}
 use Rattle.tq_store.specs.Names.{same_name}
-use Rattle.tq_locks.specs.declared.keyed.KeyedLocks.{KeyedLocks}
-use Rattle.tq_locks.specs.Keys.{keys_under}
-use Rattle.tq_locks.specs.Kept.{locks_in}
+use Rattle.tq_locks.specs.{declared.keyed.KeyedLocks.KeyedLocks, Keys.keys_under, Kept.locks_in}
 use Rattle.tq_locks.proofs.Applied.{Agrees-same, Agrees-inserted, RisesTo-same, OnErr-any, decided_on_file}
 use Rattle.tq_locks.proofs.keyed.KeyedLocks.insert.Goals as goal
 

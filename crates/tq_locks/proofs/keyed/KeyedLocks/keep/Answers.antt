@@ -1,7 +1,5 @@
 use Rattle.std.proofs.Common.{nat_eq, refl, ◌∙◌}
-use Rattle.tq_locks.specs.declared.keyed.KeyedLocks.{KeyedLocks}
-use Rattle.tq_locks.specs.Kept.{locks_in}
-use Rattle.tq_locks.specs.Keys.{keys_under}
+use Rattle.tq_locks.specs.{declared.keyed.KeyedLocks.KeyedLocks, Kept.locks_in, Keys.keys_under}
 use Rattle.tq_locks.proofs.Steadied.{Agrees-kept, steadied-moved}
 use Rattle.tq_locks.proofs.keyed.KeyedLocks.keep.Goals as goal
 

@@ -1,14 +1,9 @@
 use Rattle.std.proofs.Common.{Some, ap, sym, ◌∙◌}
 use mathlib.Core.Bool.{true≢false}
 use Rattle.slab.specs.Slab.{get}
-use Rattle.std.specs.List.{slice_get}
-use Rattle.std.specs.Option.{option_copied}
-use Rattle.tq_locks.specs.declared.mode.Lock.{Lock}
-use Rattle.tq_locks.specs.Locks.{LockKey}
-use Rattle.tq_locks.specs.Keys.{keys_in}
-use Rattle.tq_locks.specs.Kept.{locks_in}
-use Rattle.tq_locks.proofs.Found.{some_same, none_some}
-use Rattle.tq_locks.proofs.Applied.{IfNone-any, nothing_in_place, txn_of_key}
+use Rattle.std.specs.{List.slice_get, Option.option_copied}
+use Rattle.tq_locks.specs.{declared.mode.Lock.Lock, Locks.LockKey, Keys.keys_in, Kept.locks_in}
+use Rattle.tq_locks.proofs.{Found.{some_same, none_some}, Applied.{IfNone-any, nothing_in_place, txn_of_key}}
 use Rattle.tq_locks.proofs.keyed.KeyedLocks.key_at.Goals as goal
 
 pub returns-in_err-list-clause-none : goal.returns-in_err-list-clause-none

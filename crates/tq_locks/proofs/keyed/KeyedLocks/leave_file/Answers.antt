@@ -1,10 +1,7 @@
 use Rattle.std.proofs.Common.{◌≡◌, List, ℕ, cond, ap, subst, ◌∙◌}
 use Rattle.std.specs.List.{remove}
 use Rattle.tq_store.specs.Names.{same_name}
-use Rattle.tq_locks.specs.declared.mode.Lock.{Lock}
-use Rattle.tq_locks.specs.Locks.{LockKey}
-use Rattle.tq_locks.specs.Keys.{keys_under}
-use Rattle.tq_locks.specs.Kept.{RisesTo}
+use Rattle.tq_locks.specs.{declared.mode.Lock.Lock, Locks.LockKey, Keys.keys_under, Kept.RisesTo}
 use Rattle.tq_locks.proofs.Found.{some_same}
 use Rattle.tq_locks.proofs.keyed.KeyedLocks.leave_file.Goals as goal
 

@@ -1,10 +1,7 @@
 use Rattle.std.proofs.Common.{◌≡◌, nat_eq, ◌++◌, [], ◌∷◌, length, refl, ap, sym, subst, ◌∙◌}
 use Rattle.std.specs.FinMap as fin
-use Rattle.std.specs.List.{slice_get}
-use Rattle.std.specs.Option.{option_to_list}
-use Rattle.tq_locks.specs.declared.keyed.KeyedLocks.{KeyedLocks}
-use Rattle.tq_locks.specs.Locks.{locks_after_release}
-use Rattle.tq_locks.specs.Keys.{keys_under}
+use Rattle.std.specs.{List.slice_get, Option.option_to_list}
+use Rattle.tq_locks.specs.{declared.keyed.KeyedLocks.KeyedLocks, Locks.locks_after_release, Keys.keys_under}
 use Rattle.tq_locks.specs.Kept.{locks_in, Agrees}
 use Rattle.tq_locks.proofs.Applied.{cond_same, entry_of_key, empty_keys}
 use Rattle.tq_locks.proofs.Changed.{agreed_self, locks_in-agreed, released-remove, released-none}

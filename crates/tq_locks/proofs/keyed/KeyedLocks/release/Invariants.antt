@@ -1,7 +1,5 @@
 use Rattle.std.proofs.Common.{◌≡◌, nat_eq, [], length}
-use Rattle.tq_locks.specs.Keys.{keys_under}
-use Rattle.tq_locks.specs.Locks.{locks_after_release}
-use Rattle.tq_locks.specs.Kept.{locks_in, Agrees}
+use Rattle.tq_locks.specs.{Keys.keys_under, Locks.locks_after_release, Kept.{locks_in, Agrees}}
 use Rattle.tq_locks.proofs.Partition.{with_list}
 use Rattle.tq_locks.proofs.keyed.KeyedLocks.release.Given as goal
 

@@ -1,10 +1,6 @@
 use Rattle.std.proofs.Common.{◌≡◌, nat_eq, ap, subst, refl, ◌∙◌}
-use Rattle.tq_locks.specs.declared.mode.Lock.{Lock}
-use Rattle.tq_locks.specs.Locks.{LockKey}
-use Rattle.tq_locks.specs.Keys.{keys_under}
-use Rattle.tq_locks.specs.Kept.{locks_in, RisesTo}
-use Rattle.tq_locks.proofs.Found.{some_same}
-use Rattle.tq_locks.proofs.Applied.{Agrees-left}
+use Rattle.tq_locks.specs.{declared.mode.Lock.Lock, Locks.LockKey, Keys.keys_under, Kept.{locks_in, RisesTo}}
+use Rattle.tq_locks.proofs.{Found.some_same, Applied.Agrees-left}
 use Rattle.tq_locks.proofs.keyed.KeyedLocks.remove.Goals as goal
 
 pub returns-clause-agreed : goal.returns-clause-agreed

@@ -1,5 +1,4 @@
-use Rattle.tq_locks.proofs.Placed.{OnOk-to}
-use Rattle.tq_locks.proofs.Listed.{listed_room}
+use Rattle.tq_locks.proofs.{Placed.OnOk-to, Listed.listed_room}
 use Rattle.tq_locks.proofs.lock_slab.LockSlab.reserve.Goals as goal
 
 pub returns-then-is_in_place-clause-room : goal.returns-then-is_in_place-clause-room

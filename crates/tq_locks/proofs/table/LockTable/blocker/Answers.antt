@@ -1,9 +1,7 @@
 use Rattle.std.proofs.Common.{ℕ, Option, Some, refl, IfNone, IfSome, ◌≡◌, None, ap, sym, subst, ◌∙◌}
-use Rattle.tq_locks.specs.Locks.{blocker, IsFree, IsLeastBlocker, LocksView}
-use Rattle.tq_locks.specs.Keys.{keys_in, entries_of}
+use Rattle.tq_locks.specs.{Locks.{blocker, IsFree, IsLeastBlocker, LocksView}, Keys.{keys_in, entries_of}}
 use Rattle.tq_locks.specs.Kept.{first_blocker, locks_in}
-use Rattle.tq_locks.proofs.Applied.{decided_on_file}
-use Rattle.tq_locks.proofs.Locked.{decided-blocker, least_blocker, no_blocker}
+use Rattle.tq_locks.proofs.{Applied.decided_on_file, Locked.{decided-blocker, least_blocker, no_blocker}}
 use Rattle.tq_locks.proofs.table.LockTable.blocker.Goals as goal
 
 pub returns-clause-value : goal.returns-clause-value

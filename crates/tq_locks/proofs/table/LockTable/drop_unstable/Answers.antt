@@ -1,8 +1,6 @@
 use Rattle.std.proofs.Common.{ap, ◌∙◌}
-use Rattle.tq_locks.specs.Locks.{only_stable, LocksView}
-use Rattle.tq_locks.specs.Kept.{locks_in}
-use Rattle.tq_locks.proofs.Changed.{closed, locks_in-agreed}
-use Rattle.tq_locks.proofs.Locked.{HasNoConflict-only_stable}
+use Rattle.tq_locks.specs.{Locks.{only_stable, LocksView}, Kept.locks_in}
+use Rattle.tq_locks.proofs.{Changed.{closed, locks_in-agreed}, Locked.HasNoConflict-only_stable}
 use Rattle.tq_locks.proofs.table.LockTable.drop_unstable.Goals as goal
 
 pub invariant_of-self : goal.invariant_of-self

@@ -1,8 +1,6 @@
 use Rattle.std.proofs.Common.{ap, ◌∙◌}
-use Rattle.tq_locks.specs.Locks.{locks_after_keep, LocksView}
-use Rattle.tq_locks.specs.Kept.{locks_in}
-use Rattle.tq_locks.proofs.Changed.{closed, locks_in-agreed}
-use Rattle.tq_locks.proofs.Locked.{HasNoConflict-kept}
+use Rattle.tq_locks.specs.{Locks.{locks_after_keep, LocksView}, Kept.locks_in}
+use Rattle.tq_locks.proofs.{Changed.{closed, locks_in-agreed}, Locked.HasNoConflict-kept}
 use Rattle.tq_locks.proofs.table.LockTable.keep.Goals as goal
 
 pub invariant_of-self : goal.invariant_of-self

@@ -1,8 +1,6 @@
 use Rattle.std.proofs.Common.{subst}
 use Rattle.tq_store.specs.Names.{same_name}
-use Rattle.tq_locks.specs.Keys.{keys_under}
-use Rattle.tq_locks.specs.Locks.{LocksView}
-use Rattle.tq_locks.specs.Kept.{locks_in, on_file, ListsKeysOf, HasOneKeyEach}
+use Rattle.tq_locks.specs.{Keys.keys_under, Locks.LocksView, Kept.{locks_in, on_file, ListsKeysOf, HasOneKeyEach}}
 use Rattle.tq_locks.proofs.Applied.{lent, lent_once, sorted_on_file}
 use Rattle.tq_locks.proofs.table.LockTable.keys_of_file.Goals as goal
 

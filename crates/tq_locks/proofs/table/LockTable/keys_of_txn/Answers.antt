@@ -1,7 +1,5 @@
 use Rattle.std.proofs.Common.{subst, nat_eq}
-use Rattle.tq_locks.specs.Keys.{keys_under}
-use Rattle.tq_locks.specs.Locks.{LocksView, held_of}
-use Rattle.tq_locks.specs.Kept.{locks_in, ListsKeysOf, HasOneKeyEach}
+use Rattle.tq_locks.specs.{Keys.keys_under, Locks.{LocksView, held_of}, Kept.{locks_in, ListsKeysOf, HasOneKeyEach}}
 use Rattle.tq_locks.proofs.Applied.{lent, lent_once, sorted_held_of}
 use Rattle.tq_locks.proofs.table.LockTable.keys_of_txn.Goals as goal
 

@@ -1,8 +1,6 @@
 use Rattle.std.proofs.Common.{nat_eq, ap, ◌∙◌}
 use Rattle.slab.specs.Slab.{get}
-use Rattle.tq_locks.specs.Locks.{held_of, LocksView}
-use Rattle.tq_locks.specs.Keys.{keys_in, keys_under, entries_of}
-use Rattle.tq_locks.specs.Kept.{locks_in}
+use Rattle.tq_locks.specs.{Locks.{held_of, LocksView}, Keys.{keys_in, keys_under, entries_of}, Kept.locks_in}
 use Rattle.tq_locks.proofs.Applied.{told-listed}
 use Rattle.tq_locks.proofs.table.LockTable.locks_of.Goals as goal
 

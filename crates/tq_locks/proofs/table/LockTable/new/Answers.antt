@@ -1,6 +1,5 @@
 use Rattle.std.specs.FinMap as fin
-use Rattle.tq_locks.proofs.Changed.{closed, locks_in-agreed}
-use Rattle.tq_locks.proofs.Locked.{HasNoConflict-empty}
+use Rattle.tq_locks.proofs.{Changed.{closed, locks_in-agreed}, Locked.HasNoConflict-empty}
 use Rattle.tq_locks.proofs.table.LockTable.new.Goals as goal
 
 pub invariant_of-result : goal.invariant_of-result

@@ -1,8 +1,6 @@
 use Rattle.std.proofs.Common.{ap, ◌∙◌}
-use Rattle.tq_locks.specs.Locks.{locks_after_release, LocksView}
-use Rattle.tq_locks.specs.Kept.{locks_in}
-use Rattle.tq_locks.proofs.Changed.{closed, locks_in-agreed}
-use Rattle.tq_locks.proofs.Locked.{HasNoConflict-released}
+use Rattle.tq_locks.specs.{Locks.{locks_after_release, LocksView}, Kept.locks_in}
+use Rattle.tq_locks.proofs.{Changed.{closed, locks_in-agreed}, Locked.HasNoConflict-released}
 use Rattle.tq_locks.proofs.table.LockTable.release.Goals as goal
 
 pub invariant_of-self : goal.invariant_of-self

@@ -1,13 +1,9 @@
-use Rattle.std.proofs.Common.{◌≡◌, List, length, map, ap, subst, sym, ◌∙◌}
-use Rattle.std.proofs.lemmas.Bool.{false≢true}
+use Rattle.std.proofs.{Common.{◌≡◌, List, length, map, ap, subst, sym, ◌∙◌}, lemmas.Bool.false≢true}
 use Rattle.std.proofs.lemmas.List.{length-map}
 use Rattle.tq_shape.specs.declared.part.Part.{Part}
 use Rattle.tq_node.specs.NodeJournal.{NodeEntry}
-use Rattle.tq_merge.specs.Order.{times, entries_of}
-use Rattle.tq_merge.specs.Placing.{PlacingView}
-use Rattle.tq_merge.proofs.Places.{length_each}
-use Rattle.tq_merge.proofs.Legality.{each_length}
-use Rattle.tq_merge.proofs.Greedy.{all_placed, not_desk, not_servers}
+use Rattle.tq_merge.specs.{Order.{times, entries_of}, Placing.PlacingView}
+use Rattle.tq_merge.proofs.{Places.length_each, Legality.each_length, Greedy.{all_placed, not_desk, not_servers}}
 use Rattle.tq_merge.proofs.placing.Placing.is_whole.Goals as goal
 
 pub returns-then-self-desk-clause-left : goal.returns-then-self-desk-clause-left

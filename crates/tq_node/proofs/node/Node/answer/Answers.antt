@@ -1,8 +1,6 @@
 use Rattle.std.proofs.Common.{subst}
 use Rattle.tq_node.specs.Node.{IsKept, NodeView}
-use Rattle.tq_node.proofs.ByCases.{told_crash, told_step}
-use Rattle.tq_node.proofs.OnlyStep.{told_only}
-use Rattle.tq_node.proofs.Sound.{kept_is}
+use Rattle.tq_node.proofs.{ByCases.{told_crash, told_step}, OnlyStep.told_only, Sound.kept_is}
 use Rattle.tq_node.proofs.node.Node.answer.Goals as goal
 
 pub returns-clause-by_cases : goal.returns-clause-by_cases

@@ -1,7 +1,6 @@
 use Rattle.std.proofs.Common.{[], ◌∷◌, ◌++◌, IsSome, refl, ap, sym, subst, ◌∙◌}
 use Rattle.std.specs.FinMap as fin
-use Rattle.tq_intents.specs.Kept.{kept_votes, vote_at}
-use Rattle.tq_intents.specs.declared.record.Record.TheVariants.{Gone}
+use Rattle.tq_intents.specs.{Kept.{kept_votes, vote_at}, declared.record.Record.TheVariants.Gone}
 use Rattle.tq_node.proofs.Sound.{sound-as, sound-ended}
 use Rattle.tq_node.proofs.node.Node.discard.Goals as goal
 

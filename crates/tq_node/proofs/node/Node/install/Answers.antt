@@ -1,18 +1,12 @@
 use Rattle.std.proofs.Common.{◌≡◌, ℕ, List, [], ◌∷◌, ◌++◌, IsSome, map, filter, length, ap, sym, subst, ◌∙◌, arith}
-use Rattle.std.proofs.lemmas.Grind.{common_steps}
-use Rattle.std.proofs.lemmas.List.{take_all}
+use Rattle.std.proofs.lemmas.{Grind.common_steps, List.take_all}
 use Rattle.std.specs.FinMap as fin
-use Rattle.tq_store.specs.Copies.{Files, installed_all, is_newer}
-use Rattle.tq_intents.specs.Kept.{kept_votes, newer_first, vote_at}
+use Rattle.tq_store.specs.{Copies.{Files, installed_all, is_newer}, declared.write.Write.Write}
+use Rattle.tq_intents.specs.{Kept.{kept_votes, newer_first, vote_at}, declared.record.Record.TheVariants.{Copy, Gone}}
 use Rattle.tq_intents.proofs.CopiesPush.{installed_all-newer}
-use Rattle.tq_intents.specs.declared.record.Record.TheVariants.{Copy, Gone}
 use Rattle.tq_locks.specs.Locks.{locks_after_release}
-use Rattle.tq_store.specs.declared.write.Write.{Write}
-use Rattle.tq_node.specs.Node.{NodeView}
-use Rattle.tq_node.specs.Records.{newer_writes}
-use Rattle.tq_node.specs.contracts.node.Node.{the_view}
-use Rattle.tq_node.specs.NodeChanges.{records_of, server_after_step}
-use Rattle.tq_node.specs.declared.change.NodeStep.TheVariants.{Install}
+use Rattle.tq_node.specs.{Node.NodeView, Records.newer_writes, contracts.node.Node.the_view}
+use Rattle.tq_node.specs.{NodeChanges.{records_of, server_after_step}, declared.change.NodeStep.TheVariants.Install}
 use Rattle.tq_node.proofs.Sound.{sound-as, sound-installed}
 use Rattle.tq_node.proofs.node.Node.install.Goals as goal
 

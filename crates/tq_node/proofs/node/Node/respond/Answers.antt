@@ -1,6 +1,5 @@
 use Rattle.std.proofs.Common.{ap, sym, subst, ◌∙◌}
-use Rattle.tq_node.specs.NodeChanges.{node_changed, NodeFits}
-use Rattle.tq_node.specs.NodePlans.{change_fits, change_leads}
+use Rattle.tq_node.specs.{NodeChanges.{node_changed, NodeFits}, NodePlans.{change_fits, change_leads}}
 use Rattle.tq_node.proofs.node.Node.respond.Goals as goal
 
 pub apply-requires : goal.apply-requires

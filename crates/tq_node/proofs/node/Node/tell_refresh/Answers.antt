@@ -1,12 +1,8 @@
 use Rattle.std.proofs.Common.{◌≡◌, ℕ, [], ◌∷◌, ◌++◌, refl, sym, ap, subst, ◌∙◌, rules}
 use Rattle.tq_asks.specs.declared.ask.WorkAsk.{WorkAsk}
-use Rattle.tq_intents.specs.Sharing.{told_write}
-use Rattle.tq_intents.specs.declared.record.Record.TheVariants.{Copy}
-use Rattle.tq_store.specs.Copies.{copies_after_install}
-use Rattle.tq_store.specs.declared.write.Write.{Write}
-use Rattle.tq_node.specs.Node.{NodeView}
-use Rattle.tq_node.specs.Telling.{IsWorkTold}
-use Rattle.tq_node.specs.declared.telling.Telling.{Telling}
+use Rattle.tq_intents.specs.{Sharing.told_write, declared.record.Record.TheVariants.Copy}
+use Rattle.tq_store.specs.{Copies.copies_after_install, declared.write.Write.Write}
+use Rattle.tq_node.specs.{Node.NodeView, Telling.IsWorkTold, declared.telling.Telling.Telling}
 use Rattle.tq_node.proofs.Sound.{sound-as, sound-copies}
 use Rattle.tq_node.proofs.node.Node.tell_refresh.Goals as goal
 

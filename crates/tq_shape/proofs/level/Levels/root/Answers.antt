@@ -1,5 +1,4 @@
-use Rattle.std.proofs.Common.{◌^◌, ◌≤◌, arith}
-use Rattle.std.proofs.Math.Nat.{pow-le-pow_right}
+use Rattle.std.proofs.{Common.{◌^◌, ◌≤◌, arith}, Math.Nat.pow-le-pow_right}
 use Rattle.tq_shape.proofs.level.Levels.root.Goals as goal
 
 pub new-requires : goal.new-requires

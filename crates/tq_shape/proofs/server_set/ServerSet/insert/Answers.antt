@@ -1,6 +1,5 @@
 use Rattle.std.proofs.Common.{◌<◌, ◌/◌, ◌≡◌, length, ap, sym, ◌∙◌}
-use Rattle.tq_shape.proofs.SetBits.{with_number-last}
-use Rattle.tq_shape.proofs.SetWords.{AreWordsOf-with, has_place, is_new, set-with}
+use Rattle.tq_shape.proofs.{SetBits.with_number-last, SetWords.{AreWordsOf-with, has_place, is_new, set-with}}
 use Rattle.tq_shape.proofs.server_set.ServerSet.insert.Goals as goal
 
 pub put-requires : goal.put-requires

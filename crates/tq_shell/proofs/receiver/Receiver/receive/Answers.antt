@@ -1,5 +1,4 @@
-use Rattle.std.proofs.Common.{◌≡◌, ◌∙◌, ◌+◌, ◌-◌, [], length, take, drop, arith}
-use Rattle.std.proofs.lemmas.Bool.{eqb-true}
+use Rattle.std.proofs.{Common.{◌≡◌, ◌∙◌, ◌+◌, ◌-◌, [], length, take, drop, arith}, lemmas.Bool.eqb-true}
 use Rattle.std.proofs.lemmas.List.{take_all, length-drop}
 use Rattle.tq_shell.proofs.Pieces.{no-feed, line-parts, receiving-whole, receiving-all-text, receiving-all-after, receiving-all-taken, receiving-on, receiving-full-text, receiving-full-after, receiving-full-taken, text-cut}
 use Rattle.tq_shell.specs.Stream.{ended_answer}

@@ -1,6 +1,5 @@
-use Rattle.std.proofs.Common.{ap, rules, ◌∙◌}
+use Rattle.std.proofs.{Common.{ap, rules, ◌∙◌}, lemmas.Map.Entries.entries_from_clone}
 use Rattle.std.specs.FinMap as fin
-use Rattle.std.proofs.lemmas.Map.Entries.{entries_from_clone}
 use Rattle.tq_store.proofs.copies.Copies.copy.Goals as goal
 
 pub returns : goal.returns

@@ -1,13 +1,11 @@
 use Rattle.std.proofs.Common.{◌≡◌, ◌∙◌, Some, None, nat_eq, nat_lt, ap, sym, subst, rules}
-use Rattle.std.specs.Cmp.Lexicographic.{pointwise}
+use Rattle.std.specs.{Cmp.Lexicographic.pointwise, Map.lookup, Option.option_copied_mut}
 use Rattle.std.specs.FinMap as map
-use Rattle.std.specs.Map.{lookup}
-use Rattle.std.specs.Option.{option_copied_mut}
 use Rattle.tq_store.specs.Copies.{CopiesView, Files, Installs, OnlyRises, copy_of, copies_after_install}
 use Rattle.tq_store.specs.declared.copies.FileCopy.{FileCopy}
 use Rattle.tq_store.proofs.Installed.{Installs-installed, rises-installed, is-newer, is-no_newer, put-back, put-in}
-use Rattle.tq_store.proofs.copies.Copies.install_newer.Goals as goal
 use Rattle.tq_store.proofs.copies.Copies.install_newer.Goals.{in-Some-get_mut, in_default-get_mut}
+use Rattle.tq_store.proofs.copies.Copies.install_newer.Goals as goal
 
 -- a file that had no copy
 

@@ -1,9 +1,7 @@
-use Rattle.std.proofs.Common.{◌<◌, length, sym, ap, subst, ◌∙◌, arith, slice_get}
+use Rattle.std.proofs.{Common.{◌<◌, length, sym, ap, subst, ◌∙◌, arith, slice_get}, lemmas.Option.slice_get_past}
 use Rattle.tq_store.proofs.Placed.{opened}
 use Rattle.std.specs.List.{IsDistinct}
-use Rattle.std_collections.proofs.Zip.{slice_get-zip}
-use Rattle.std_collections.proofs.HashMapEq.{own_value}
-use Rattle.std.proofs.lemmas.Option.{slice_get_past}
+use Rattle.std_collections.proofs.{Zip.slice_get-zip, HashMapEq.own_value}
 use Rattle.tq_store.proofs.ordered.Ordered.get_index.Goals as goal
 
 pub returns-then-place-len : goal.returns-then-place-len

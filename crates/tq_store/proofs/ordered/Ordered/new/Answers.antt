@@ -1,7 +1,5 @@
 use Rattle.std.proofs.Common.{[], ℕ, length, refl, sym, ap, subst, ◌∙◌, arith}
-use Rattle.std.specs.List.{IsDistinct}
-use Rattle.std.specs.Map.{lookup}
-use Rattle.std.specs.BTreeMap.{is_at}
+use Rattle.std.specs.{List.IsDistinct, Map.lookup, BTreeMap.is_at}
 use Rattle.std_collections.proofs.HashLookup.{distinct_nil}
 use Rattle.tq_store.proofs.ordered.Ordered.new.Goals as goal
 

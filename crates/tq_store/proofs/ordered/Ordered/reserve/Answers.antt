@@ -1,7 +1,6 @@
 use Rattle.std.proofs.Common.{sym, ap, subst, ◌∙◌, zip}
 use Rattle.tq_store.proofs.Placed.{opened}
-use Rattle.std.specs.List.{IsDistinct}
-use Rattle.std.specs.Map.{keys_of}
+use Rattle.std.specs.{List.IsDistinct, Map.keys_of}
 use Rattle.tq_store.proofs.ordered.Ordered.reserve.Goals as goal
 
 pub returns-in_err-reserve-clause-unique : goal.returns-in_err-reserve-clause-unique

@@ -1,7 +1,6 @@
 use Rattle.std.proofs.Common.{ap, sym, ◌∙◌}
-use Rattle.std.specs.Cmp.Lexicographic.{nat_list_cmp_total}
+use Rattle.std.specs.{Cmp.Lexicographic.nat_list_cmp_total, FinMap.{nat_cmp-IsAntisymmetric, slice_cmp-IsAntisymmetric}}
 use Rattle.std.specs.FinMap as fin
-use Rattle.std.specs.FinMap.{nat_cmp-IsAntisymmetric, slice_cmp-IsAntisymmetric}
 use Rattle.tq_locks.proofs.Found.{entries-from_ordered}
 use Rattle.tq_tables.proofs.file_names.FileNames.iter.Goals as goal
 

@@ -1,10 +1,7 @@
 use Rattle.std.proofs.Common.{ℕ, ◌≤◌, length, ap, sym, subst, ◌∙◌}
 use Rattle.std.specs.List.{All}
 use Rattle.tq_shape.specs.ServerSet.{servers_of_numbers}
-use Rattle.tq_tables.specs.Files.{stood_in}
-use Rattle.tq_tables.specs.Parts.{AreOfTree}
-use Rattle.tq_tables.specs.Rows.{has_version}
-use Rattle.tq_tables.specs.declared.file_row.FileRow.{FileRow}
+use Rattle.tq_tables.specs.{Files.stood_in, Parts.AreOfTree, Rows.has_version, declared.file_row.FileRow.FileRow}
 use Rattle.tq_tables.proofs.Settled.{are-within, at_next, next-exact}
 use Rattle.tq_tables.proofs.file_row.FileRow.of_next_commit.Goals as goal
 

@@ -1,13 +1,10 @@
 use Rattle.std.proofs.Common.{◌-◌, ◌<◌, ℕ, List, length, get_or, refl, ap, sym, subst, ◌∙◌, arith}
-use Rattle.std.specs.List.{All}
 use Rattle.std.proofs.lemmas.List.Elements.{All-head, All-rest}
+use Rattle.std.specs.List.{All}
 use Rattle.tq_shape.specs.Tree.{Server}
 use Rattle.tq_node.specs.Node.{NodeView}
-use Rattle.tq_tables.specs.Files.{IsOfLevels, row_by_copy, stood_in}
-use Rattle.tq_tables.specs.declared.file_row.FileRow.{FileRow}
-use Rattle.tq_tables.proofs.Kept.{stood-levels}
-use Rattle.tq_tables.proofs.RowLaws.{at-place}
-use Rattle.tq_tables.proofs.Settled.{IsPlace, are-places-of, node-found}
+use Rattle.tq_tables.specs.{Files.{IsOfLevels, row_by_copy, stood_in}, declared.file_row.FileRow.FileRow}
+use Rattle.tq_tables.proofs.{Kept.stood-levels, RowLaws.at-place, Settled.{IsPlace, are-places-of, node-found}}
 use Rattle.tq_tables.proofs.file_row.FileRow.set_currency_of_each.Goals as goal
 
 pub set_currency-requires-clause-least : goal.set_currency-requires-clause-least

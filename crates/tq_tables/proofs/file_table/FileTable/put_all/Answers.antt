@@ -1,5 +1,4 @@
-use Rattle.std.proofs.Common.{◌≡◌, ap, arith, length, rules}
-use Rattle.std.proofs.lemmas.List.Elements.{All-rest}
+use Rattle.std.proofs.{Common.{◌≡◌, ap, arith, length, rules}, lemmas.List.Elements.All-rest}
 use Rattle.std.specs.Vec.Iter.{into_iter_items}
 use Rattle.tq_tables.specs.declared.file_row.FileRow.{FileRow}
 use Rattle.tq_tables.proofs.file_table.FileTable.put_all.Goals as goal

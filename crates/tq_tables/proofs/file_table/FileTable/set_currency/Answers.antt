@@ -1,13 +1,9 @@
-use Rattle.std.specs.Prelude.{slice_get, IfSome}
-use Rattle.std.proofs.Common.{◌≡◌, ◌∙◌, ℕ, List, Option, is_some, map, ap, subst, sym, true}
-use Rattle.std.specs.Map.{lookup}
-use Rattle.std.proofs.lemmas.Bool.{OnTrue_at}
+use Rattle.std.specs.{Prelude.{slice_get, IfSome}, Map.lookup}
+use Rattle.std.proofs.{Common.{◌≡◌, ◌∙◌, ℕ, List, Option, is_some, map, ap, subst, sym, true}, lemmas.Bool.OnTrue_at}
 use Rattle.indexmap.proofs.MapLemmas.{value_index}
 use Rattle.tq_store.specs.Names.{same_name}
-use Rattle.tq_tables.specs.Files.{has_row, FilesView, stood_at}
-use Rattle.tq_tables.specs.declared.file_row.FileRow.{FileRow}
-use Rattle.tq_tables.proofs.Kept.{absent-stood, has_row-found}
-use Rattle.tq_tables.proofs.Placed.{found-there}
+use Rattle.tq_tables.specs.{Files.{has_row, FilesView, stood_at}, declared.file_row.FileRow.FileRow}
+use Rattle.tq_tables.proofs.{Kept.{absent-stood, has_row-found}, Placed.found-there}
 use Rattle.tq_tables.proofs.file_table.FileTable.set_currency.Goals as goal
 
 -- the row that is found is the file's

@@ -1,5 +1,4 @@
-use Rattle.std.specs.Prelude.{slice_get}
-use Rattle.std.specs.Bool.{OnFalse, OnTrue}
+use Rattle.std.specs.{Prelude.slice_get, Bool.{OnFalse, OnTrue}}
 use Rattle.std.proofs.Common.{◌≡◌, ◌∙◌, ℕ, Bool, true, false, List, Some, map, ap, subst, sym}
 use Rattle.std.proofs.lemmas.Bool.{OnFalse_at, OnFalse_from, OnTrue_at, OnTrue_from}
 use Rattle.tq_node.specs.Node.{NodeView}

@@ -1,6 +1,5 @@
 use Rattle.std.proofs.Common.{ap, sym, subst, ◌∙◌}
-use Rattle.tq_live.specs.View.{view_after}
-use Rattle.tq_live.specs.ViewLaws.{ViewFits, view_changed, change_fits, change_leads}
+use Rattle.tq_live.specs.{View.view_after, ViewLaws.{ViewFits, view_changed, change_fits, change_leads}}
 use Rattle.tq_live.specs.declared.view.ViewChange.{ViewChange}
 use Rattle.tq_tables.specs.Parts.{PartsView}
 use Rattle.tq_tables.proofs.parts.Parts.ask_view.Goals as goal

@@ -1,6 +1,5 @@
 use Rattle.std.proofs.Common.{◌≡◌, ap, subst, sym}
-use Rattle.tq_tables.specs.Journals.{AreJournals, JournalsView}
-use Rattle.tq_tables.specs.Tabled.{journals_of}
+use Rattle.tq_tables.specs.{Journals.{AreJournals, JournalsView}, Tabled.journals_of}
 use Rattle.tq_tables.proofs.tabled_journals.TabledJournals.of.Goals as goal
 
 pub returns-clause-journals : goal.returns-clause-journals

@@ -1,6 +1,5 @@
 use Rattle.std.proofs.Common.{sym, subst, ◌∙◌}
-use Rattle.tq_tables.specs.Reserved.{IsReserve, with_ready}
-use Rattle.tq_tables.specs.Tables.{TablesView}
+use Rattle.tq_tables.specs.{Reserved.{IsReserve, with_ready}, Tables.TablesView}
 use Rattle.tq_tables.proofs.tables.Tables.copy.Goals as goal
 
 pub invariant_of-result : goal.invariant_of-result

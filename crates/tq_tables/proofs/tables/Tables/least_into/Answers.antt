@@ -1,8 +1,6 @@
 use Rattle.std.proofs.Common.{◌≡◌, ◌<◌, ◌^◌, ap, sym, ◌∙◌, arith}
 use Rattle.tq_live.specs.Live.{Live}
-use Rattle.tq_tables.specs.Parts.{PartsView}
-use Rattle.tq_tables.specs.Rows.{least_in, least_row}
-use Rattle.tq_tables.specs.Tables.{TablesView}
+use Rattle.tq_tables.specs.{Parts.PartsView, Rows.{least_in, least_row}, Tables.TablesView}
 use Rattle.tq_tables.proofs.Restood.{least_in_rows}
 use Rattle.tq_tables.proofs.tables.Tables.least_into.Goals as goal
 

@@ -1,8 +1,7 @@
 use Rattle.std.proofs.Common.{◌≡◌, ℕ, ◌+◌, ◌<◌, List, [], length, get_or, refl, ap, sym, subst, ◌∙◌, arith, rules}
 use Rattle.tq_desk.specs.DeskJournal.{DeskEntry}
 use Rattle.tq_node.specs.NodeJournal.{NodeEntry}
-use Rattle.tq_tables.specs.Journals.{ViewEntry, no_entries}
-use Rattle.tq_tables.specs.Tables.{tables_of}
+use Rattle.tq_tables.specs.{Journals.{ViewEntry, no_entries}, Tables.tables_of}
 use Rattle.tq_tables.proofs.Again.{desk-step, from_nothing, may-ask-desk, may-ask-node, next_server, node-step, server-count, server-entries, to_all, until, view-step}
 use Rattle.tq_tables.proofs.tables.Tables.of.Goals as goal
 

@@ -1,8 +1,6 @@
 use Rattle.std.proofs.Common.{◌+◌, ◌^◌, List, length, ap, ◌∙◌}
 use Rattle.tq_live.specs.Live.{Live}
-use Rattle.tq_tables.specs.Parts.{PartsView}
-use Rattle.tq_tables.specs.declared.quorum_rows.QuorumRow.{QuorumRow}
-use Rattle.tq_tables.specs.Tables.{TablesView}
+use Rattle.tq_tables.specs.{Parts.PartsView, declared.quorum_rows.QuorumRow.QuorumRow, Tables.TablesView}
 use Rattle.tq_tables.proofs.Restood.{length-quorum_rows}
 use Rattle.tq_tables.proofs.tables.Tables.quorums.Goals as goal
 

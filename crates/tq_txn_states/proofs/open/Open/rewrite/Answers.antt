@@ -1,9 +1,6 @@
-use Rattle.tq_txn_states.proofs.GoodOps.{IsOpen-rewritten}
+use Rattle.tq_txn_states.proofs.{GoodOps.IsOpen-rewritten, CitedLaws.rewrite_keeps}
 use Rattle.std.proofs.Common.{List}
-use Rattle.tq_txn_states.specs.declared.told.NodeTold.{NodeTold}
-use Rattle.tq_txn_states.specs.Voting.{KeepsOnly}
-use Rattle.tq_txn_states.specs.Open.{OpenView}
-use Rattle.tq_txn_states.proofs.CitedLaws.{rewrite_keeps}
+use Rattle.tq_txn_states.specs.{declared.told.NodeTold.NodeTold, Voting.KeepsOnly, Open.OpenView}
 use Rattle.tq_txn_states.proofs.open.Open.rewrite.Goals as goal
 
 pub invariant_of-self : goal.invariant_of-self

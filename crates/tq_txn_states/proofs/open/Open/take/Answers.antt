@@ -1,8 +1,7 @@
 use Rattle.std.proofs.Common.{◌≡◌, ◌∙◌, sym, ap}
 use Rattle.tq_evidence.specs.Evidence.{granters}
 use Rattle.tq_txn_states.specs.Open.{OpenView, with_op, with_numbers}
-use Rattle.tq_txn_states.proofs.GoodOps.{IsOpen-with}
-use Rattle.tq_txn_states.proofs.GoodGrants.{quorum_found}
+use Rattle.tq_txn_states.proofs.{GoodOps.IsOpen-with, GoodGrants.quorum_found}
 use Rattle.tq_txn_states.proofs.open.Open.take.Goals as goal
 
 pub grow-requires-clause-quorum : goal.grow-requires-clause-quorum

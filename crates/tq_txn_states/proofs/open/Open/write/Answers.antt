@@ -2,8 +2,7 @@ use Rattle.std.proofs.Common.{◌∙◌, ap}
 use Rattle.tq_evidence.specs.declared.op.OpKind.TheVariants as kinds
 use Rattle.tq_evidence.specs.Evidence.{is_exclusively_granted}
 use Rattle.tq_txn_states.specs.Open.{txn_after_op, write_op}
-use Rattle.tq_txn_states.proofs.CitedLaws.{taken_cited}
-use Rattle.tq_txn_states.proofs.GoodGrants.{exclusive_grants}
+use Rattle.tq_txn_states.proofs.{CitedLaws.taken_cited, GoodGrants.exclusive_grants}
 use Rattle.tq_txn_states.proofs.open.Open.write.Goals as goal
 
 pub write_granted-requires-clause-exclusive : goal.write_granted-requires-clause-exclusive

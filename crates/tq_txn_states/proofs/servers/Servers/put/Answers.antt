@@ -1,10 +1,8 @@
-use Rattle.std.proofs.Common.{◌==◌, ◌≡◌, ◌∙◌, ℕ, false, nat_lt, sym, ap}
-use Rattle.std.proofs.lemmas.Bool.{eq-eqb}
+use Rattle.std.proofs.{Common.{◌==◌, ◌≡◌, ◌∙◌, ℕ, false, nat_lt, sym, ap}, lemmas.Bool.eq-eqb}
 use Rattle.tq_shape.specs.Tree.{Server}
 use Rattle.tq_coterie.specs.Coterie.{has, numbers_of}
 use Rattle.tq_txn_states.specs.Open.{RoomySet, with_id}
-use Rattle.tq_txn_states.proofs.Searched.{has-map, map-put, rises-with_server, put_at}
-use Rattle.tq_txn_states.proofs.Puts.{list_all-put}
+use Rattle.tq_txn_states.proofs.{Searched.{has-map, map-put, rises-with_server, put_at}, Puts.list_all-put}
 use Rattle.tq_txn_states.proofs.servers.Servers.put.Goals as goal
 
 abbrev number : Server → ℕ

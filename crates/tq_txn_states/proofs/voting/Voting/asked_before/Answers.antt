@@ -1,6 +1,5 @@
 use Rattle.std.proofs.Common.{◌≡◌, ◌∙◌, true, List, map, sym, ap, subst, rules}
-use Rattle.tq_asks.specs.declared.ask.NodeAsk.TheVariants.{Work}
-use Rattle.tq_asks.specs.declared.ask.WorkAsk.TheVariants.{Prepare}
+use Rattle.tq_asks.specs.declared.ask.{NodeAsk.TheVariants.Work, WorkAsk.TheVariants.Prepare}
 use Rattle.tq_store.specs.declared.write.Write.{Write}
 use Rattle.tq_evidence.specs.declared.op.Op.{Op}
 use Rattle.tq_txn_states.specs.Voting.{HasWhole, writes_all_at, write_in, writes_in}

@@ -1,8 +1,6 @@
 use Rattle.std.proofs.Common.{subst}
 use Rattle.std.specs.Prelude.{IfErr}
-use Rattle.tq_txn_states.specs.declared.told.NodeTold.{NodeTold}
-use Rattle.tq_txn_states.specs.Voting.{TakesVote, vote_fault}
-use Rattle.tq_txn_states.specs.Open.{ComesOf}
+use Rattle.tq_txn_states.specs.{declared.told.NodeTold.NodeTold, Voting.{TakesVote, vote_fault}, Open.ComesOf}
 use Rattle.tq_txn_states.proofs.voting.Voting.vote.Goals as goal
 
 pub returns-clause-vote : goal.returns-clause-vote

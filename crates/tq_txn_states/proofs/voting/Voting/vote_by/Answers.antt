@@ -1,7 +1,6 @@
 use Rattle.std.proofs.Common.{◌≡◌, ◌∙◌, refl, sym, ap, subst}
 use Rattle.tq_txn_states.specs.Voting.{VotingView, IsGoodVote, KeepsVotes, txn_after_vote, with_vote}
-use Rattle.tq_txn_states.proofs.CitedLaws.{vote_cited}
-use Rattle.tq_txn_states.proofs.GoodVotes.{kept_with_vote, IsVoting-with_vote}
+use Rattle.tq_txn_states.proofs.{CitedLaws.vote_cited, GoodVotes.{kept_with_vote, IsVoting-with_vote}}
 use Rattle.tq_txn_states.proofs.voting.Voting.vote_by.Goals as goal
 
 pub invariant_of-self-2 : goal.invariant_of-self-2
