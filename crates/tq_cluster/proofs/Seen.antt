@@ -12,11 +12,13 @@ use Rattle.tq_live.proofs.Ways.{tree_send}
 use Rattle.tq_store.specs.contracts.copies.Copies as Copies
 use Rattle.tq_locks.specs.contracts.table.LockTable as LockTable
 use Rattle.tq_intents.specs.contracts.intents.Intents as Intents
+use Rattle.tq_intents.specs.contracts.record.OpenVote as OpenVote
 use Rattle.tq_intents.specs.contracts.shared_write.SharedWrite as SharedWrite
 use Rattle.tq_asks.specs.contracts.ask.NodeAsk as TheNodeAsk
 use Rattle.tq_asks.specs.contracts.ask.NodeReply as TheNodeReply
 use Rattle.tq_asks.specs.contracts.ask.WorkAsk as WorkAsk
 use Rattle.tq_node.specs.contracts.node.Node as Node
+use Rattle.tq_evidence.specs.contracts.op.Op as Op
 use Rattle.tq_desk.specs.contracts.ask.DeskAsk as DeskAsk
 use Rattle.tq_desk.specs.contracts.ask.DeskReply as DeskReply
 use Rattle.tq_desk.specs.contracts.desk.Desk as Desk
@@ -57,8 +59,15 @@ node_ask_send = search (work_ask_send, work_ask_sync, sendable, crosses, maps.cr
 node_reply_send : IsSend TheNodeReply.the_field.row
 node_reply_send = search (sendable, crosses, maps.crosses, others.crosses) depth 60 fits 30000
 
+-- the operations of a commit are shared too
+op_send : IsSend Op.the_field.row
+op_send = search (sendable, crosses) depth 60 fits 30000
+
+op_sync : IsSync Op.the_field.row
+op_sync = search (sendable, crosses) depth 60 fits 30000
+
 desk_ask_send : IsSend DeskAsk.the_field.row
-desk_ask_send = search (sendable, crosses, maps.crosses, others.crosses) depth 60 fits 30000
+desk_ask_send = search (op_send, op_sync, sendable, crosses, maps.crosses, others.crosses) depth 60 fits 30000
 
 desk_reply_send : IsSend DeskReply.the_field.row
 desk_reply_send = search (sendable, crosses, maps.crosses, others.crosses) depth 60 fits 30000
@@ -81,8 +90,11 @@ locks_send = search (sendable, crosses, maps.crosses, others.crosses) depth 60 f
 shared_write_send : IsSend SharedWrite.the_field.row
 shared_write_send = search (sendable, crosses, maps.crosses, others.crosses) depth 60 fits 30000
 
+open_vote_send : IsSend OpenVote.the_field.row
+open_vote_send = search (sendable, crosses, maps.crosses, others.crosses) depth 60 fits 30000
+
 intents_send : IsSend Intents.the_field.row
-intents_send = search (shared_write_send, sendable, crosses, maps.crosses, others.crosses) depth 60 fits 30000
+intents_send = search (open_vote_send, shared_write_send, sendable, crosses, maps.crosses, others.crosses) depth 60 fits 30000
 
 node_send : IsSend Node.the_field.row
 node_send = search (copies_send, locks_send, intents_send, sendable, crosses, maps.crosses, others.crosses) depth 60 fits 30000
