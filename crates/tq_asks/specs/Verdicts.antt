@@ -1,5 +1,5 @@
 -- Which votes a verdict cites. Whether two verdicts are the same, as a test.
-use Rattle.std.specs.{Prelude.{ℕ, Bool, false, ◌&&◌, ◌==◌, List, true}, List.list_any, Cmp.Lexicographic.pointwise}
+use Rattle.std.specs.{Prelude.{◌≡◌, ℕ, Bool, false, ◌&&◌, ◌==◌, List, true}, List.list_any, Cmp.Lexicographic.pointwise}
 use Rattle.tq_asks.specs.declared.ask.{CitedVote.CitedVote, Verdict.Verdict, Verdict.TheVariants.{Abort, Commit}}
 
 -- the votes cited have this one
@@ -10,6 +10,9 @@ are_citing votes server number = list_any (λ vote. vote.server == server && vot
 abbrev pub cites_vote : Verdict → ℕ → ℕ → Bool
 cites_vote Abort server number = false
 cites_vote (Commit votes) server number = are_citing votes server number
+
+abbrev pub IsCited : Verdict → ℕ → ℕ → Type 0
+IsCited verdict server number = cites_vote verdict server number ≡ true
 
 -- ---- same
 

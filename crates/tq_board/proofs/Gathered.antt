@@ -2,14 +2,13 @@
 -- it comes, step by step.
 use Rattle.std.proofs.Common.{◌≡◌, ℕ, List, [], ◌∷◌, ◌++◌, Result, Ok, Err, ap, sym, subst, append_assoc, map, refl, Bool, true, false, true≢false, Option, length, take, drop, ◌∙◌, arith}
 use Rattle.std.proofs.{lemmas.List.{append-nil, take-append-drop}, Math.Seq.take-append_seam}
+use Rattle.std.specs.{List.AllByRecursion, Prelude.is_err, Io.KnownBytes.Appends}
 use Rattle.json.specs.Print.{escape, quoted}
 use Rattle.tq_board.specs.Lines.{in_quotes, Added, Adds, Spill, IsSpilled, Settles, Spills, Ends, IsWrittenOut}
 use Rattle.tq_board.specs.Values.{value_items}
-use Rattle.std.specs.{List.AllByRecursion, Prelude.is_err, Io.KnownBytes.Appends}
 use Rattle.serde_json.specs.Data.{Data, item}
-use Rattle.tq_devices.specs.{Devices.IsWritten, declared.fault.RunFault.RunFault}
+use Rattle.tq_devices.{specs.{Devices.IsWritten, declared.fault.RunFault.RunFault}, proofs.Written.Appends-then}
 use Rattle.tq_devices.specs.declared.fault.RunFault.TheVariants.{Memory, Read, Write, TooLong}
-use Rattle.tq_devices.proofs.Written.{Appends-then}
 
 -- what is put first, and then more
 pub added : {O : Type 0} {Puts : O → O → List ℕ → Type 0} {old mid new : O} {some more : List ℕ} → Added Puts old mid some → Added Puts mid new more → Added Puts old new (some ++ more)

@@ -4,8 +4,7 @@
 use Rattle.std.proofs.Common.{◌≡◌, nat_lt, ◌≤◌, suc, ℕ, false, cond, List, [], ◌∷◌, length, Option, Some, None, refl, ap, ◌∙◌, sym, nat_le, ◌&&◌, ◌+◌, ◌^◌, Bool, true, ◌++◌, arith}
 use Rattle.std.proofs.lemmas.{Bool.{le-leb, le-ltb, eq-eqb}, List.Elements.recursion_from_All}
 use Rattle.std.specs.{List.AllByRecursion, Prelude.IsUtf8}
-use Rattle.hex.specs.Hex.{encode_lower}
-use Rattle.hex.proofs.HexLemmas.{decode_of-encode_lower}
+use Rattle.hex.{specs.Hex.encode_lower, proofs.HexLemmas.decode_of-encode_lower}
 use Rattle.serde_json.specs.{Data.{Data, Items}, Written.compact_text}
 use Rattle.tq_shape.specs.{declared.part.Entry.Entry, Limits.LimitsView}
 use Rattle.tq_json.specs.declared.format.Format.TheVariants.{Two}
@@ -14,7 +13,8 @@ use Rattle.tq_json_read.specs.Frame.{entry, count, journal, node_entry, desk_ent
 use Rattle.tq_board.specs.{Values.{whole, value_items, list_value, entry_value, IsFitting}, Nodes.node_entry_value}
 use Rattle.tq_board.specs.Sound.{IsFile, IsContent, IsAny, IsWrite, IsHeldLock, IsWork, IsNodeAsk, IsNodeRefusal, IsNodeReply, IsNodeEntry, IsGrant, IsOp, IsVote, IsDeskAsk, IsDeskEntry, IsViewReply, IsViewEntry, AreSound, HasLimits}
 use Rattle.tq_board.specs.Form.{desk_entry_value, limits_value, journals_value, view_entry_value}
-use Rattle.tq_board.specs.Lines.{IsTextOf, line_of}
+use Rattle.tq_board.{specs.Lines.{IsTextOf, line_of}, proofs.ReadBack.read-line}
+use Rattle.tq_board.proofs.Shapes.{journals-shaped, node-entry-shaped, desk-entry-shaped, view-entry-shaped, deeper, IsShaped}
 use Rattle.tq_store.specs.declared.write.Write.{Write}
 use Rattle.tq_locks.specs.{declared.mode.Mode.Mode, Locks.mode_text}
 use Rattle.tq_locks.specs.declared.mode.Mode.TheVariants as mode
@@ -48,8 +48,6 @@ use Rattle.tq_json_read.specs.Views as view_form
 use Rattle.tq_board.specs.Nodes as nodes
 use Rattle.tq_board.specs.Form as forms
 use Rattle.tq_json_read.specs.Frame as frame
-use Rattle.tq_board.proofs.ReadBack.{read-line}
-use Rattle.tq_board.proofs.Shapes.{journals-shaped, node-entry-shaped, desk-entry-shaped, view-entry-shaped, deeper, IsShaped}
 
 pub name-again : (name : List ℕ) → IsFile name → name_of name ≡ Some name
 name-again name h = ap (λ b. cond b (Some name) None) h
@@ -119,7 +117,7 @@ verdict-again verdict.Abort = refl
 verdict-again (verdict.Commit votes) = rw (votes-again votes)
 
 work-again : (w : WorkAsk) → IsWork w → node_form.work_at Two (nodes.work_value w) ≡ Some w
-work-again (work.Lock txn file m) h = rw (name-again file h, mode-again m)
+work-again (work.Lock m txn file) h = rw (name-again file h, mode-again m)
 work-again (work.Prepare txn writes) h = rw (writes-again writes h)
 work-again (work.Decide txn v cite) h = rw (verdict-again v)
 work-again (work.Peek file) h = rw (name-again file h)
@@ -127,7 +125,7 @@ work-again (work.Refresh file version content from) h = rw (name-again file h.0,
 work-again _ h = refl
 
 node-ask-again : (a : NodeAsk) → IsNodeAsk a → node_form.node_ask Two (nodes.node_ask_value a) ≡ Some a
-node-ask-again (ask.Work (work.Lock txn file m)) h = rw (name-again file h, mode-again m)
+node-ask-again (ask.Work (work.Lock m txn file)) h = rw (name-again file h, mode-again m)
 node-ask-again (ask.Work (work.Prepare txn writes)) h = rw (writes-again writes h)
 node-ask-again (ask.Work (work.Decide txn v cite)) h = rw (verdict-again v)
 node-ask-again (ask.Work (work.Peek file)) h = rw (name-again file h)

@@ -5,15 +5,14 @@
 use Rattle.std.proofs.Common.{◌≡◌, ℕ, Bool, true, false, cond, ◌&&◌, List, [], ◌∷◌, ◌++◌, refl, sym, ap, ap₂, ◌∙◌, append_assoc, zero, suc, ◌-◌, inl, inr, eq-zero-or-pos, ◌/◌, ◌%◌, ◌<◌, ◌≤◌, IsTrue, arith, Option, Some, option_and_then, append-nil, ◌^◌, ◌+◌, nat_lt, map, subst}
 use Rattle.std.proofs.lemmas.{Bool.Decides.nat_tests, List.get_or_past, Str.Ascii.{IsAscii-cons, IsAscii-nil}}
 use Rattle.std.proofs.lemmas.Fmt.{decimal-digits_of, decimal_digit}
+use Rattle.std.specs.{Prelude.{nat_le, length, slice_index, decimal}, List.list_all, Str.IsAscii, Char.digit_char}
 use Rattle.json.specs.{Token.{Token, begin_object, key, string, number, boolean, null, bad}, Word.{ends_word, word}}
 use Rattle.json.specs.Lex.{Lexeme, token, comma, colon, string_token, lex, between, fresh, punctuate, tokens}
 use Rattle.json.specs.Print.{escape, quoted, token_text, begins, ends, separator, print_from, print, IsPrintable, ArePrintable, escape_byte, escape_letter}
 use Rattle.json.proofs.Printed.{Strings.{content-escape, lex-escape, escape_byte_plain}, Tokens.tokens-print}
 use Rattle.json.proofs.Printed.{Numbers.{lex-number, in_word-ended}, Decimals.IsNumber-decimal}
 use Rattle.json.proofs.Printed.Trees.{value-json_tokens, ArePrintable-json_tokens}
-use Rattle.std.specs.{Prelude.{nat_le, length, slice_index, decimal}, List.list_all, Str.IsAscii, Char.digit_char}
-use Rattle.hex.specs.Hex.{encode_with, encode_lower, lower_digits, IsBytes}
-use Rattle.hex.proofs.HexLemmas.{IsAscii-encode_with}
+use Rattle.hex.{specs.Hex.{encode_with, encode_lower, lower_digits, IsBytes}, proofs.HexLemmas.IsAscii-encode_with}
 use Rattle.tq_store.specs.Names.{is_name_byte, is_file_name, starts_with_letter}
 use Rattle.json.specs.Json as json
 use Rattle.json.specs.Tree as tree

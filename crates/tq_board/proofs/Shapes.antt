@@ -1,9 +1,8 @@
 -- A list of servers of a member is found in the coterie. Values that nest no deeper than so many levels, in whose
 -- objects each name stands once, in ascending order. What nests no deeper than so many levels nests no deeper than
 -- more of them. The values that are written nest a few levels deep, and their members stand in order.
-use Rattle.std.proofs.Common.{◌≡◌, true, ℕ, List, subst, ◌≤◌, arith, [], ◌∷◌, refl}
-use Rattle.std.proofs.lemmas.Map.Views.{list_any-from_Contains}
-use Rattle.std.specs.{Cmp.Lexicographic.nat_list_eq_equiv, Prelude.{◌-◌, ◌<◌, ⊤}}
+use Rattle.std.{proofs.Common.{◌≡◌, true, ℕ, List, subst, ◌≤◌, arith, [], ◌∷◌, refl}, specs.Prelude.{◌-◌, ◌<◌, ⊤}}
+use Rattle.std.{proofs.lemmas.Map.Views.list_any-from_Contains, specs.Cmp.Lexicographic.nat_list_eq_equiv}
 use Rattle.tq_shape.specs.{Tree.Server, declared.part.Entry.Entry, Limits.LimitsView}
 use Rattle.tq_coterie.specs.Coterie.{coterie, numbers_of, is_quorum, IsMemberList, ServerList}
 use Rattle.serde_json.specs.Data.{Data, null, boolean, number, string, array, object, Items, no_items, item, Members, no_members, member, put}
@@ -109,7 +108,7 @@ verdict-shaped levels deep (verdict.Commit votes) =
     (omega (arith, deep), (tt, (list-shaped nodes.cited_value (levels - 1) (omega (arith, deep)) (cited-shaped (levels - 1 - 1) (omega (arith, deep))) votes, tt)), refl)
 
 work-shaped : (levels : ℕ) → 4 ≤ levels → (w : WorkAsk) → IsShaped (nodes.work_value w) levels
-work-shaped levels deep (work.Lock txn file m) = (omega (arith, deep), (tt, (tt, (tt, (tt, tt)))), refl)
+work-shaped levels deep (work.Lock m txn file) = (omega (arith, deep), (tt, (tt, (tt, (tt, tt)))), refl)
 work-shaped levels deep (work.Prepare txn writes) =
     (omega (arith, deep), (tt, (tt, (list-shaped nodes.write_value (levels - 1) (omega (arith, deep)) (write-shaped (levels - 1 - 1) (omega (arith, deep))) writes, tt))), refl)
 work-shaped levels deep (work.Decide txn v cite) = (omega (arith, deep), (tt, (tt, (tt, (verdict-shaped (levels - 1) (omega (arith, deep)) v, tt)))), refl)

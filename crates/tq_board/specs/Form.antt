@@ -3,10 +3,9 @@
 use Rattle.std.specs.Prelude.{codes, ℕ, List, [], ◌∷◌, ◌++◌}
 use Rattle.serde_json.specs.{Data.{Data, object, member, no_members, string, boolean}, Written.compact_text}
 use Rattle.tq_coterie.specs.Coterie.{ServerList}
-use Rattle.tq_live.specs.{Costs.purpose_text, declared.purpose.Purpose.Purpose, declared.view.ViewAsk.ViewAsk}
+use Rattle.tq_live.specs.{Costs.purpose_text, declared.{purpose.Purpose.Purpose, view.ViewAsk.ViewAsk}}
 use Rattle.tq_live.specs.declared.view.{ViewAsk.TheVariants.{SetCost, Mark, Choose}, ViewReply.ViewReply}
-use Rattle.tq_live.specs.declared.view.ViewRefusal.{ViewRefusal}
-use Rattle.tq_live.specs.declared.view.ViewRefusal.TheVariants.{NoSuchServer, BadCost, Blocked}
+use Rattle.tq_live.specs.declared.view.ViewRefusal.{ViewRefusal, TheVariants.{NoSuchServer, BadCost, Blocked}}
 use Rattle.tq_live.specs.declared.view.ViewReply.TheVariants as told
 use Rattle.tq_tables.specs.Journals.{ViewEntry, JournalsView}
 use Rattle.tq_board.specs.Values.{whole, list_value, kind_value, code_value, entry_value, content_value}

@@ -41,7 +41,7 @@ verdict_value (Commit votes) =
 -- ---- asks
 
 abbrev pub work_value : WorkAsk → Data
-work_value (Lock txn file mode) =
+work_value (Lock mode txn file) =
     object (member (codes "file") (string file)
     (member (codes "is") (string (codes "lock"))
     (member (codes "mode") (mode_value mode)

@@ -46,7 +46,7 @@ abbrev pub IsHeldLock : HeldLock → Type 0
 IsHeldLock lock = IsFile lock.file
 
 abbrev pub IsWork : WorkAsk → Type 0
-IsWork (work.Lock txn file mode) = IsFile file
+IsWork (work.Lock mode txn file) = IsFile file
 IsWork (work.Prepare txn writes) = AllByRecursion IsWrite writes
 IsWork (work.Peek file) = IsFile file
 IsWork (work.Refresh file version content from) = IsFile file × IsContent content

@@ -1,8 +1,8 @@
 //! What the desk is asked and what it replies.
 use crate::codes;
 use crate::out::Out;
-use crate::to_json::{ToJson, put_code};
-use tq_desk::{DeskAsk, DeskRefusal, DeskReply};
+use crate::to_json::{ToJson, put_code, put_list};
+use tq_desk::{Ballot, DeskAsk, DeskRefusal, DeskReply};
 use tq_evidence::{Grant, Op, OpKind, Rule, Vote};
 
 impl ToJson for OpKind {
@@ -68,6 +68,19 @@ impl ToJson for Vote {
         self.server.put_after(out, ",\"server\":")?;
         self.writes.put_after(out, ",\"writes\":")?;
         out.push("}")
+    }
+}
+
+impl ToJson for Ballot {
+    ghost use Rattle.std.specs.List.{AllByRecursion};
+    ghost use Rattle.tq_board.specs.{Form.vote_value, Sound.IsVote, Values.list_value};
+
+    ghost value = { list_value vote_value };
+
+    ghost sound = { AllByRecursion IsVote };
+
+    fn put<O: Out>(&self, out: &mut O) -> Result<(), O::Fault> {
+        put_list(out, self.as_slice())
     }
 }
 

@@ -5,7 +5,7 @@ use crate::to_json::{ToJson, put_list};
 use tq_evidence::Shareable;
 use tq_live::Purpose;
 use tq_locks::Mode;
-use tq_shape::{Entry, Seq, ServerId, SharedSeq};
+use tq_shape::{Entry, Seq, ServerId, Shared, SharedSeq};
 use tq_store::{Content, FileName};
 
 impl ToJson for u64 {
@@ -136,6 +136,22 @@ impl ToJson for Content {
     fn put_after<O: Out>(&self, out: &mut O, piece: &str) -> Result<(), O::Fault> {
         let bytes = self.as_bytes();
         out.push_digits(piece, bytes)
+    }
+}
+
+impl<T: ToJson> ToJson for Shared<T> {
+    ghost value = { T.value };
+
+    ghost sound = { T.sound };
+
+    #[inline(always)]
+    fn put<O: Out>(&self, out: &mut O) -> Result<(), O::Fault> {
+        self.get().put(out)
+    }
+
+    #[inline(always)]
+    fn put_after<O: Out>(&self, out: &mut O, piece: &str) -> Result<(), O::Fault> {
+        self.get().put_after(out, piece)
     }
 }
 

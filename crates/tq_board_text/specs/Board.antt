@@ -2,8 +2,7 @@
 -- file's row as text.
 use Rattle.std.specs.Prelude.{◌≡◌, ℕ, ◌-◌, ◌^◌, Bool, true, false, List, [], ◌∷◌, ◌++◌, map, String, Option, Some, None, codes, slice_index_or, ◌&&◌, nat_eq}
 use Rattle.std.specs.{List.flat_map, String.string_bytes, Fmt.decimal, Cmp.Lexicographic.pointwise, Borrow.Bor}
-use Rattle.tq_live.specs.{Live.{Live, costs_of, is_up}, View.upwards, declared.costs.Costs.Costs}
-use Rattle.tq_live.specs.declared.least.Least.{Least}
+use Rattle.tq_live.specs.{Live.{Live, costs_of, is_up}, View.upwards, declared.{costs.Costs.Costs, least.Least.Least}}
 use Rattle.tq_tables.specs.{Tables.TablesView, declared.quorum_rows.QuorumRow.QuorumRow, Rows.no_quorums}
 use Rattle.tq_tables.specs.declared.{file_row.FileRow.FileRow, lock_rows.LockRow.LockRow}
 use Rattle.tq_tables.specs.declared.intent_rows.{FileVersion.FileVersion, IntentRow.IntentRow, IntentState.IntentState}

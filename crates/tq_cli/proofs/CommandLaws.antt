@@ -12,12 +12,11 @@ use Rattle.clap.specs.declared.{error.kind.ErrorKind.ErrorKind, builder.value_pa
 use Rattle.clap.specs.declared.builder.value_parser.{Reading.TheVariants.WithoutMinus, ValueParser.ValueParser}
 use Rattle.clap.specs.declared.parser.matches.{Found.Found, ArgMatches.ArgMatches, SubCommand.SubCommand}
 use Rattle.clap.specs.declared.parser.matches.ArgMatches.TheViews.{out-ArgMatches, out-SubCommand}
+use Rattle.clap.proofs.{WalkLemmas.one_text-rows, ValueTestLemmas.accepts-Accepts, CallerReads.signed_reads}
 use Rattle.clap.specs.declared.builder.value_parser.ValueParser.TheVariants as vp
 use Rattle.clap.specs.declared.error.kind.ErrorKind.TheVariants as kinds
-use Rattle.clap.proofs.{WalkLemmas.one_text-rows, ValueTestLemmas.accepts-Accepts, CallerReads.signed_reads}
-use Rattle.tq_cli.specs.declared.command.WordsFault.{WordsFault}
+use Rattle.tq_cli.{specs.declared.command.WordsFault.WordsFault, proofs.ParseLaws.{Keeps, both_none, level_kept}}
 use Rattle.tq_cli.specs.Command.{CanAsk, CanAskBare, CanAskOther, CanBeGiven, IsGivenOrZero, IsRefused, MayHaveNumber, fault_by, fault_for, HasNumber, IsGiven, audit_app, shell_app, threads_app, tq_app, upgrade_app}
-use Rattle.tq_cli.proofs.ParseLaws.{Keeps, both_none, level_kept}
 use Rattle.tq_cli.proofs.RuleLaws.{AreNamed, IsClean, help_keeps, other_keeps, row_given, row_or_none, rows_found, not_found, none_asks, set_keeps, some_kind, sub_by, taken, first_byte}
 
 pub passed_by : (passes : Bool) → cond passes [] (kinds.ValueValidation ∷ []) ≡ [] → passes ≡ true

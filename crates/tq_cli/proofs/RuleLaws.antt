@@ -10,8 +10,7 @@ use Rattle.clap.specs.declared.{error.kind.ErrorKind.ErrorKind, parser.matches.V
 use Rattle.clap.specs.declared.parser.matches.ValueSource.TheVariants.{CommandLine}
 use Rattle.clap.specs.declared.builder.value_parser.ValueParser.TheVariants as vp
 use Rattle.clap.specs.declared.error.kind.ErrorKind.TheVariants as kinds
-use Rattle.tq_cli.specs.Command.{IsFound, set_rule}
-use Rattle.tq_cli.proofs.ParseLaws.{Keeps, both_none}
+use Rattle.tq_cli.{specs.Command.{IsFound, set_rule}, proofs.ParseLaws.{Keeps, both_none}}
 
 -- a fact of each row
 abbrev pub EachRow : (Row → Type 0) → List Row → Type 0

@@ -5,10 +5,9 @@ use Rattle.clap.specs.{Kinds.{check_kinds, value_kinds, values_kinds}, Values.re
 use Rattle.clap.specs.{Walk.{Row, Rule, Text, answers_to, many_of, nothing_held, stop_after}, Takes.is_given}
 use Rattle.clap.specs.Simple.{Shape, argument_words, built, built_leaf, entered, filled, help_rule, inherited, label_of, marked_built, names_of, rows_at, with_index, with_leaf_noted}
 use Rattle.clap.specs.{Faults.{entered_fault, fault_of, level_fault}, Words.{subcommand_of, without_minus}}
-use Rattle.clap.specs.declared.builder.value_parser.{Reading.Reading, Reading.TheVariants.{AsWritten, WithoutMinus}}
-use Rattle.clap.specs.declared.builder.value_parser.ValueParser.{ValueParser}
+use Rattle.clap.specs.declared.builder.value_parser.Reading.{Reading, TheVariants.{AsWritten, WithoutMinus}}
+use Rattle.clap.{specs.declared.builder.value_parser.ValueParser.ValueParser, proofs.ValueTestLemmas.accepts-Accepts}
 use Rattle.clap.specs.declared.builder.value_parser.ValueParser.TheVariants as vp
-use Rattle.clap.proofs.ValueTestLemmas.{accepts-Accepts}
 use Rattle.tq_cli.specs.TqdWords.{CanAsk, CanAskLast, CanAskPart, CanBePart, CanBeServer, HasLimit, HasLimits, HasText, part_app, rehearse_app, server_app, tqd_app}
 use Rattle.tq_cli.proofs.ParseLaws.{Each, Keeps, both_none, level_kept}
 use Rattle.tq_cli.proofs.RuleLaws.{AreNamed, IsClean, help_keeps, other_keeps, row_given, row_or_none, rows_found, not_found, none_asks, set_keeps, some_kind, sub_by, taken, first_byte}

@@ -2,17 +2,17 @@
 -- journals that come out of cells are those of a system.
 use Rattle.std.proofs.Common.{◌≡◌, ◌<◌, ◌≤◌, ◌+◌, ◌-◌, ℕ, zero, suc, List, [], ◌∷◌, ◌++◌, length, get_or, ap, sym, subst, ◌∙◌, arith, length-append, Option, Some, None, refl, ◌^◌, map}
 use Rattle.std.proofs.lemmas.{List.Elements.All-push, List.{length-map, map-append}}
+use Rattle.std.specs.{Option.{MatchOption, IfNone}, Prelude.reverse, List.All}
 use Rattle.tq_shape.specs.{declared.part.Part.Part, Journal.IsLegalFrom, Limits.LimitsView}
+use Rattle.tq_shape.proofs.Joined.{legal-reverse}
 use Rattle.tq_shape.specs.declared.part.Part.TheVariants as parts
 use Rattle.tq_cluster.specs.Cluster.{AreServers, ClusterView, AreOfCluster, IsClosedBy, AreTablesOfPrefixes}
-use Rattle.std.specs.{Option.{MatchOption, IfNone}, Prelude.reverse, List.All}
 use Rattle.tq_txn.specs.declared.asker.Exchange.{Exchange}
 use Rattle.tq_tables.specs.{Journals.{JournalsView, IsOfTree, ViewEntry, AreJournals}, Tables.tables_of}
 use Rattle.tq_tables.specs.Parts.{AreLegal, AreLegalServers, bounds_of}
 use Rattle.tq_mirror.specs.Prefixes.{AllBegin}
 use Rattle.tq_merge.specs.{declared.fault.CloseFault.CloseFault, Told.{IsCloseFault, AreKept}, Order.IsStuck}
 use Rattle.tq_merge.specs.declared.fault.CloseFault.TheVariants as faults
-use Rattle.tq_shape.proofs.Joined.{legal-reverse}
 use Rattle.tq_asks.specs.declared.ask.NodeAsk.{NodeAsk}
 use Rattle.tq_node.specs.{Records.{NodeState, node_reply, node_after}, Node.{NodeView, server_after}}
 use Rattle.tq_node.specs.NodeJournal.{NodeEntry, IsLegalNode, nothing_stored}

@@ -7,9 +7,8 @@ use Rattle.tq_shape.specs.declared.part.Part.TheVariants as parts
 use Rattle.tq_tables.specs.Journals.{JournalsView}
 use Rattle.tq_mirror.specs.declared.{entries.Entries.Entries, fault.PullFault.PullFault}
 use Rattle.tq_mirror.specs.Prefixes.{IsPullFault, journals_with, prefix_length}
-use Rattle.tq_cluster.specs.Told.{CallerView, having_seen, seen_of}
+use Rattle.tq_cluster.{specs.Told.{CallerView, having_seen, seen_of}, proofs.Came.took_none}
 use Rattle.tq_cluster.specs.Rounds.{ArePulled, IsNotPulled, IsPulled, seen_then, servers_from}
-use Rattle.tq_cluster.proofs.Came.{took_none}
 
 -- ---- one part
 

@@ -1,8 +1,7 @@
 -- Prefixes that pulls continue. Jobs that are put one after another.
 use Rattle.std.proofs.Common.{◌≡◌, ◌≢◌, ◌⊎◌, ◌≤◌, ◌+◌, ◌-◌, ◌^◌, ℕ, zero, suc, List, [], ◌∷◌, ◌++◌, length, set, get_or, inl, inr, refl, sym, ap, subst, ◌∙◌, arith, append_assoc, append-nil, ◌<◌, ◌==◌, Bool, false, cond, drop, map}
 use Rattle.std.proofs.lemmas.{List.{get_or-set_other, drop_all, drop_more, map-append}, Bool.cases_eq}
-use Rattle.std.proofs.lemmas.Bool.Decides.{nat_tests}
-use Rattle.std.specs.{Prelude.{Result, Ok, Err, OnOk, OnErr}, List.flat_map}
+use Rattle.std.{proofs.lemmas.Bool.Decides.nat_tests, specs.{Prelude.{Result, Ok, Err, OnOk, OnErr}, List.flat_map}}
 use Rattle.tq_shape.specs.{Tree.IsServer, declared.part.Part.Part}
 use Rattle.tq_shape.specs.declared.part.Part.TheVariants as parts
 use Rattle.tq_tables.specs.Journals.{JournalsView}

@@ -6,6 +6,7 @@ use denote.Struct.Declared.{shape}
 use denote.Struct.Tuple.{TupleAt, type_at, field_at}
 use Rattle.std.proofs.Common.{ℕ, List, [], ◌∷◌, ◌≡◌, ◌≤◌, ◌<◌, ◌+◌, ◌-◌, ◌^◌, zero, suc, length, map, max, set, get_or, refl, sym, ap, subst, ◌∙◌, arith}
 use Rattle.std.proofs.{Crossing.crosses, lemmas.List.{length-map, map-set, get_or-map, get_or-set_same, set-get_or}}
+use Rattle.std.specs.Prelude.{Result, Ok, Err, IfErr, OnOk, OnErr}
 use Rattle.std.proofs.MapsCrossing as maps
 use Rattle.std.proofs.MapsCrossingOver as others
 use Rattle.tq_live.proofs.Ways.{tree_send}
@@ -33,7 +34,6 @@ use Rattle.tq_cluster.specs.contracts.ends.Taker as Taker
 use Rattle.tq_cluster.proofs.ends.Taker.TheSendSync as takers
 use Rattle.tq_cluster.specs.contracts.workers.Message as Message
 use Rattle.tq_cluster.proofs.workers.Message.TheSendSync as messages
-use Rattle.std.specs.Prelude.{Result, Ok, Err, IfErr, OnOk, OnErr}
 use Rattle.tq_cells.specs.Passes.{Seen}
 use Rattle.tq_shape.specs.{Tree.IsServer, declared.part.Part.Part}
 use Rattle.tq_shape.specs.declared.part.Part.TheVariants as parts

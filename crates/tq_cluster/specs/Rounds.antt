@@ -3,10 +3,10 @@ use Rattle.std.specs.Prelude.{◌≡◌, ◌≤◌, ◌<◌, ◌-◌, ◌^◌, �
 use Rattle.tq_shape.specs.{declared.part.Part.Part, Limits.LimitsView}
 use Rattle.tq_shape.specs.declared.part.Part.TheVariants as parts
 use Rattle.tq_desk.specs.DeskJournal.{DeskEntry}
-use Rattle.tq_tables.specs.{Journals.{JournalsView, ViewEntry}, Tables.tables_of}
+use Rattle.tq_tables.specs.{Journals.{JournalsView, ViewEntry, no_entries}, Tables.tables_of}
 use Rattle.tq_cells.specs.Passes.{last_behind}
 use Rattle.tq_mirror.specs.declared.{entries.Entries.Entries, fault.PullFault.PullFault}
-use Rattle.tq_mirror.specs.Prefixes.{IsForeign, IsPartOf, IsPullFault, journals_with, prefix_length, nothing_pulled, ComesBefore}
+use Rattle.tq_mirror.specs.Prefixes.{IsForeign, IsPartOf, IsPullFault, journals_with, prefix_length, ComesBefore}
 use Rattle.tq_mirror.specs.declared.fault.PullFault.TheVariants as faults
 use Rattle.tq_cluster.specs.{Told.{CallerView, having_seen, seen_of, nothing_seen}, declared.workers.Message.Message}
 use Rattle.tq_cluster.specs.declared.rounds.Round.{Round}
@@ -138,7 +138,7 @@ pub record IsRound (round : Round) (workers : ℕ) (before board : JournalsView)
 -- so many rounds were made, from a new board on, and memory was refused to none of them
 abbrev pub AreRounds : ℕ → LimitsView → ℕ → ℕ → JournalsView → CallerView → List Message → List Message → Type 0
 AreRounds levels limits workers zero board caller old new =
-    (board ≡ nothing_pulled levels limits) × (caller.seen ≡ nothing_seen levels) × (new ≡ old)
+    (board ≡ no_entries levels limits) × (caller.seen ≡ nothing_seen levels) × (new ≡ old)
 AreRounds levels limits workers (suc count) board caller old new =
     (before : JournalsView) × (been : CallerView) × (put : List Message) × (round : Round)
     × AreRounds levels limits workers count before been old put

@@ -2,8 +2,8 @@
 
 ghost use Rattle.std.specs.Prelude.{◌≡◌, ◌≤◌, ◌-◌, ◌^◌, IfOk, IfErr, OnOk, OnErr};
 ghost use Rattle.tq_shape.specs.Tree.{IsServer};
-ghost use Rattle.tq_tables.specs.{Parts.AreLegal, Tables.tables_of};
-ghost use Rattle.tq_mirror.specs.Prefixes.{IsPartOf, IsPullFault, journals_with, nothing_pulled, prefix_length, server_prefix};
+ghost use Rattle.tq_tables.specs.{Parts.AreLegal, Tables.tables_of, Journals.no_entries};
+ghost use Rattle.tq_mirror.specs.Prefixes.{IsPartOf, IsPullFault, journals_with, prefix_length, server_prefix};
 ghost use Rattle.tq_cluster.specs.Told.{SeesOn, having_seen, seen_of};
 ghost use Rattle.tq_cluster.specs.Rounds.{ArePulled, Continues, EndedAt, HasSeenAll, HasSeenServers, IsPull, SawWhatCame, parts_of, seen_then, servers_from};
 
@@ -44,7 +44,7 @@ impl Model for LiveBoard {
 impl LiveBoard {
     /// A board that pulled nothing. Answers an error only where memory is refused.
     pub fn new(alloc: Global, levels: Levels, limits: Limits) -> Result<LiveBoard, Memory>
-        ensures { IfOk result (λ board. board ≡ nothing_pulled levels limits) }
+        ensures { IfOk result (λ board. board ≡ no_entries levels limits) }
     {
         let prefixes = Prefixes::new(alloc, levels, limits)?;
         Ok(LiveBoard { prefixes })

@@ -6,27 +6,23 @@ use Rattle.std.proofs.lemmas.{Bool.{and_parts, and_from, eqb-true, eq-eqb, cases
 use Rattle.std.specs.{List.{find, Contains}, Prelude.{◌==◌, nat_eq, ◌&&◌}, Cmp.Lexicographic.{pointwise, same_text}}
 use Rattle.tq_evidence.specs.{declared.op.Op.Op, Evidence.{is_write, writes_file, servers_of}, declared.vote.Vote.Vote}
 use Rattle.tq_evidence.specs.declared.grant.Grant.{Grant}
-use Rattle.tq_store.specs.Names.{same_name}
+use Rattle.tq_store.{specs.Names.same_name, proofs.Padded.{same_name-is, same_name-refl}}
 use Rattle.tq_shape.specs.Journal.{Has, entry_at}
+use Rattle.tq_shape.proofs.Places.{find-Has, none-Has, any-Has, Has-map, map-Has, Has-any, Some-same}
 use Rattle.tq_desk.specs.DeskJournal.{Commit, count_one, count, last_one, last_write, IsNumbered, AreNumbered, IsWritten, DeskBounds, DeskEntry, IsLegalDesk, final, with_commit, commits, DeskLaws, IsShown, HasTop}
 use Rattle.tq_desk.specs.{declared.ask.DeskAsk.DeskAsk, declared.ask.DeskReply.DeskReply, DeskStep.cited_votes}
-use Rattle.tq_shape.proofs.Places.{find-Has, none-Has, any-Has, Has-map, map-Has, Has-any, Some-same}
-use Rattle.tq_store.proofs.Padded.{same_name-is, same_name-refl}
-use Rattle.tq_coterie.specs.Coterie.{coterie, has, is_quorum}
-use Rattle.tq_coterie.proofs.Members.{any_two-meet}
+use Rattle.tq_desk.proofs.DeskFinal.{desk_laws}
+use Rattle.tq_coterie.{specs.Coterie.{coterie, has, is_quorum}, proofs.Members.any_two-meet}
 use Rattle.tq_core.proofs.Worlds.{MeetsAll, Event, AtNode, AtDesk, node_journal, desk_journal, IsFoundedCommit, IsFoundedAsk, IsRun, legal_nodes, legal_desk, founded_commits}
 use Rattle.tq_core.proofs.{Told.{IsTold, shown_commits, decided, told}, Runs.run_from-append}
-use Rattle.tq_core.proofs.Journaled.{bounds_of, HasEvents, run_events}
-use Rattle.tq_asks.specs.declared.ask.{CitedVote.CitedVote, Verdict.Verdict}
+use Rattle.tq_core.{proofs.Journaled.{bounds_of, HasEvents, run_events}, specs.declared.answer.Step.Step}
+use Rattle.tq_core.specs.{Steps.{run, run_from, IsOfRun}, Headline.HasCommittedReads}
+use Rattle.tq_tables.specs.Journals.{no_entries, JournalsView}
+use Rattle.tq_asks.specs.{declared.ask.{CitedVote.CitedVote, Verdict.Verdict}, Verdicts.IsCited}
 use Rattle.tq_asks.specs.declared.ask.Verdict.TheVariants as verdicts
 use Rattle.tq_desk.specs.declared.ask.DeskAsk.TheVariants as asks
 use Rattle.tq_desk.specs.declared.ask.DeskReply.TheVariants as replies
-use Rattle.tq_node.specs.{NodeJournal.{NodeEntry, IsCited, HasHeld}, NodeLaws.NodeLaws}
-use Rattle.tq_node.proofs.Lawful.{node_laws}
-use Rattle.tq_desk.proofs.DeskFinal.{desk_laws}
-use Rattle.tq_tables.specs.Journals.{JournalsView}
-use Rattle.tq_core.specs.{declared.answer.Step.Step, World.empty_world, Steps.{run, run_from, IsOfRun}}
-use Rattle.tq_core.specs.Headline.{HasCommittedReads}
+use Rattle.tq_node.{specs.{NodeJournal.{NodeEntry, HasHeld}, NodeLaws.NodeLaws}, proofs.Lawful.node_laws}
 
 pub writes_file-is : (file : List ℕ) (op : Op) → writes_file file op ≡ true → (is_write op ≡ true) × (op.file ≡ file)
 writes_file-is file op h = let p = and_parts (is_write op) (same_name op.file file) h in (p.0, same_name-is op.file file p.1)
@@ -286,7 +282,7 @@ reads_of_run world ran = subst (λ (w : JournalsView). HasCommittedReads w) (sym
 -- and so after more steps
 pub reads_of_more : (old new : JournalsView) → IsOfRun old → (more : List Step) → new ≡ run_from old more → HasCommittedReads new
 reads_of_more old new ran more is =
-    subst (λ (w : JournalsView). HasCommittedReads w) (sym (is ∙ ap (λ (w : JournalsView). run_from w more) ran.1 ∙ sym (run_from-append (empty_world old.levels old.limits) ran.0 more)))
+    subst (λ (w : JournalsView). HasCommittedReads w) (sym (is ∙ ap (λ (w : JournalsView). run_from w more) ran.1 ∙ sym (run_from-append (no_entries old.levels old.limits) ran.0 more)))
     (reads (run old.levels old.limits (ran.0 ++ more)) (run_events old.levels old.limits (ran.0 ++ more)))
 
 -- what a service sees of its fields is a run, and so is the service

@@ -49,12 +49,12 @@ commit-is (verdicts.Commit cited) votes same = ap (λ v. verdicts.Commit v) (pai
 -- ---- entries
 
 pub granted-is : (txn : ℕ) (file : List ℕ) (grant : Grant) (ask : NodeAsk) (reply : NodeReply) → is_granted txn file grant ask reply ≡ true
-    → (ask ≡ node_asks.Work (work.Lock txn file grant.mode)) × (reply ≡ node_replies.Granted grant.version grant.content)
-granted-is txn file grant (node_asks.Work (work.Lock t f mode)) (node_replies.Granted version content) is =
+    → (ask ≡ node_asks.Work (work.Lock grant.mode txn file)) × (reply ≡ node_replies.Granted grant.version grant.content)
+granted-is txn file grant (node_asks.Work (work.Lock mode t f)) (node_replies.Granted version content) is =
     let a = and_parts (t == txn && same_name f file && same_mode mode grant.mode && version == grant.version)
     (same_name content grant.content) is in
     let b = and_parts (t == txn && same_name f file && same_mode mode grant.mode) (version == grant.version) a.0 in (
-      ap (λ ask. node_asks.Work ask) (work-is (work.Lock t f mode) (work.Lock txn file grant.mode) b.0),
+      ap (λ ask. node_asks.Work ask) (work-is (work.Lock mode t f) (work.Lock grant.mode txn file) b.0),
       node_reply-is (node_replies.Granted version content) (node_replies.Granted grant.version grant.content)
           (and_from (version == grant.version) (same_name content grant.content) b.1 a.1),
     )
@@ -145,9 +145,9 @@ none_found founded (x ∷ xs) all =
 module _ (world : JournalsView) (txn : ℕ) where
   -- a grant, or a vote, is founded where its entry stands
   pub granted-founded : (file : List ℕ) (grant : Grant)
-      → server_entry world grant.server grant.number ≡ Some (entry (node_asks.Work (work.Lock txn file grant.mode)) (node_replies.Granted grant.version grant.content)) → is_founded_grant world txn file grant ≡ true
+      → server_entry world grant.server grant.number ≡ Some (entry (node_asks.Work (work.Lock grant.mode txn file)) (node_replies.Granted grant.version grant.content)) → is_founded_grant world txn file grant ≡ true
   granted-founded file grant stands =
-      let asked = node_ask-self (node_asks.Work (work.Lock txn file grant.mode)) in
+      let asked = node_ask-self (node_asks.Work (work.Lock grant.mode txn file)) in
       let replied = and_parts (grant.version == grant.version) (same_name grant.content grant.content) (node_reply-self (node_replies.Granted grant.version grant.content)) in
       let before = txn == txn && same_name file file && same_mode grant.mode grant.mode in
       ap (λ (o : Option NodeEntry). option_map_or (λ e. is_granted txn file grant e.ask e.reply) o false) stands

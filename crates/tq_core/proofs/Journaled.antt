@@ -4,16 +4,18 @@ use Rattle.std.proofs.Common.{◌≡◌, ◌<◌, ◌-◌, ℕ, zero, suc, Bool,
 use Rattle.std.proofs.lemmas.Bool.{eqb-true, eq-eqb, false≢true}
 use Rattle.std.specs.{Prelude.{slice_get, if◌then◌else◌}, Option.{unwrap_or, option_and_then}}
 use Rattle.tq_shape.specs.{declared.part.Part.Part, Limits.LimitsView, Journal.{entry_at, entry, state_at}}
+use Rattle.tq_shape.proofs.{Joined.{reverse-push, at-reverse, state-reverse}, Options.or_else-none}
 use Rattle.tq_shape.specs.declared.part.Part.TheVariants as parts
-use Rattle.tq_tables.specs.Journals.{JournalsView}
+use Rattle.tq_tables.specs.Journals.{JournalsView, no_entries}
 use Rattle.tq_node.specs.NodeJournal.{NodeEntry, nothing_stored, node_state, inner}
 use Rattle.tq_node.specs.Records.{NodeState, node_reply, node_after}
-use Rattle.tq_core.specs.declared.{answer.Refusal.Refusal, citation.Citation.Citation, answer.Step.Step}
-use Rattle.tq_core.specs.World.{item_at, server_entry, empty_world, node_at, desk_at}
+use Rattle.tq_core.specs.declared.{answer.{Refusal.Refusal, Step.Step}, citation.Citation.Citation}
+use Rattle.tq_core.{specs.World.{item_at, server_entry, node_at, desk_at}, proofs.Runs.world_grown}
 use Rattle.tq_core.specs.Steps.{refuse_unfounded, refuse_entry, refuse_at, server_journal, refusal, node_entry, desk_entry, world_with_step, world_after, run_from, run}
 use Rattle.tq_core.specs.Founded.{is_founded_grant, is_founded_vote, is_founded_copy, is_founded_verdict, is_granted, is_voted, is_peeked, is_ended, unfounded_op, unfounded_vote, unfounded_in_desk_ask, unfounded_in_node_ask, unfounded_in_work}
+use Rattle.tq_core.proofs.Contents.{granted-is, voted-is, peeked-is, ended-is, tested-is, unless_none, ops-are, votes-are}
+use Rattle.tq_core.proofs.Worlds.{Event, AtNode, AtDesk, node_journal, desk_journal, IsFoundedGrant, IsFoundedVote, IsFoundedSource, IsFoundedWork, IsFoundedAsk, IsRun}
 use Rattle.tq_core.specs.declared.answer.Refusal.TheVariants as refusals
-use Rattle.tq_shape.proofs.{Joined.{reverse-push, at-reverse, state-reverse}, Options.or_else-none}
 use Rattle.tq_asks.specs.declared.ask.{CitedVote.CitedVote, NodeAsk.NodeAsk, Verdict.Verdict, WorkAsk.WorkAsk}
 use Rattle.tq_asks.specs.declared.ask.NodeAsk.TheVariants as node_asks
 use Rattle.tq_asks.specs.declared.ask.WorkAsk.TheVariants as work
@@ -22,9 +24,6 @@ use Rattle.tq_desk.specs.DeskJournal.{DeskBounds, desk_state, opened_desk, step_
 use Rattle.tq_desk.specs.declared.ask.DeskAsk.TheVariants as desk_asks
 use Rattle.tq_evidence.specs.declared.{grant.Grant.Grant, vote.Vote.Vote}
 use Rattle.tq_core.specs.declared.answer.Step.TheVariants as steps
-use Rattle.tq_core.proofs.Contents.{granted-is, voted-is, peeked-is, ended-is, tested-is, unless_none, ops-are, votes-are}
-use Rattle.tq_core.proofs.Runs.{world_grown}
-use Rattle.tq_core.proofs.Worlds.{Event, AtNode, AtDesk, node_journal, desk_journal, IsFoundedGrant, IsFoundedVote, IsFoundedSource, IsFoundedWork, IsFoundedAsk, IsRun}
 
 refuses_nothing : (test : Bool) (part : Part) (citation : Option Citation) → (if test then Some (refusals.JournalFull part) else refuse_unfounded citation) ≡ None → test ≡ false
 refuses_nothing true part citation none = cc
@@ -110,7 +109,7 @@ module _ (events : List Event) (world : JournalsView) (journaled : IsJournaled e
       let e = found.0 in
       let same = granted-is txn file grant e.ask e.reply found.2 in
       node_entry_at grant.server grant.number e found.1
-      ∙ ap (λ a. Some (entry a e.reply)) same.0 ∙ ap (λ r. Some (entry (node_asks.Work (work.Lock txn file grant.mode)) r)) same.1
+      ∙ ap (λ a. Some (entry a e.reply)) same.0 ∙ ap (λ r. Some (entry (node_asks.Work (work.Lock grant.mode txn file)) r)) same.1
 
   vote-is : (txn : ℕ) (vote : Vote) → is_founded_vote world txn vote ≡ true → IsFoundedVote events txn vote
   vote-is txn vote is =
@@ -146,7 +145,7 @@ module _ (events : List Event) (world : JournalsView) (journaled : IsJournaled e
   work-is : (ask : WorkAsk) → unfounded_in_work world ask ≡ None → IsFoundedWork events (Some ask)
   work-is (work.Decide txn verdict cite) none = verdict-is txn verdict cite (unless_none (is_founded_verdict world txn verdict cite) _ none)
   work-is (work.Refresh file version content from) none = copy-is file version content from (unless_none (is_founded_copy world file version content from) _ none)
-  work-is (work.Lock txn file mode) none = tt
+  work-is (work.Lock mode txn file) none = tt
   work-is (work.Prepare txn writes) none = tt
   work-is (work.Release txn) none = tt
   work-is (work.Peek file) none = tt
@@ -373,7 +372,7 @@ none_at count number = by (nat_lt 0 number)
     by true = none_there count (number - 1)
     by false = refl
 
-no_events : (levels : ℕ) (limits : LimitsView) → IsJournaled [] (empty_world levels limits)
+no_events : (levels : ℕ) (limits : LimitsView) → IsJournaled [] (no_entries levels limits)
 no_events levels limits = record {
   ran = tt;
   nodes = λ server. ap reverse (sym (none_at (2 ^ levels - 1) server));
@@ -382,4 +381,4 @@ no_events levels limits = record {
 
 -- each run is made by events
 pub run_events : (levels : ℕ) (limits : LimitsView) (steps : List Step) → HasEvents (run levels limits steps)
-run_events levels limits steps = all_steps (empty_world levels limits) steps ([], no_events levels limits)
+run_events levels limits steps = all_steps (no_entries levels limits) steps ([], no_events levels limits)

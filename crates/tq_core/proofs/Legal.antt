@@ -5,22 +5,21 @@ use Rattle.std.proofs.lemmas.Bool.{false≢true}
 use Rattle.std.specs.{Option.unwrap_or, Prelude.{reverse, slice_get, if◌then◌else◌, Result, Ok, Err, IfOk}}
 use Rattle.tq_live.specs.{Live.{Live, cost_of, best, blocker, IsChoice}, declared.purpose.Purpose.Purpose}
 use Rattle.tq_live.specs.View.{choice_reply, view_reply, view_reply_at, view_after_at, view_state, IsLegalView}
-use Rattle.tq_live.specs.declared.view.ViewAsk.{ViewAsk}
+use Rattle.tq_live.{specs.declared.view.ViewAsk.ViewAsk, proofs.{Either.{has-either, first-choice}, Journal.replays}}
 use Rattle.tq_live.specs.declared.choice.Choice.TheVariants as choices
 use Rattle.tq_live.specs.declared.view.ViewAsk.TheVariants as asks
-use Rattle.tq_live.proofs.{Either.{has-either, first-choice}, Journal.replays}
 use Rattle.tq_tables.specs.{Journals.JournalsView, Parts.{AreLegal, AreLegalServers}, Tables.{TablesView, tables_of}}
+use Rattle.tq_tables.specs.Journals.{no_entries}
 use Rattle.tq_core.specs.declared.answer.{Answer.Answer, Reply.Reply, Refusal.Refusal, Step.Step}
-use Rattle.tq_core.specs.World.{view_at, empty_world, item_at}
+use Rattle.tq_core.specs.World.{view_at, item_at}
 use Rattle.tq_core.specs.Headline.{IsOffer, OffersBest, HasCommittedReads, AreOffered, Headline}
 use Rattle.tq_core.specs.Steps.{answer, IsOfRun, refusal, world_with_step, world_after, run_from, run, view_entry, server_journal, told_at, is_memory, IsTold, AreTold}
+use Rattle.tq_core.proofs.{Journaled.{bounds_of, HasEvents, run_events}, Worlds.{legal_nodes, legal_desk}}
 use Rattle.tq_core.specs.declared.answer.Reply.TheVariants as replies
 use Rattle.tq_core.specs.declared.answer.Step.TheVariants as steps
-use Rattle.tq_shape.specs.{Limits.LimitsView, Journal.state_at}
-use Rattle.tq_shape.proofs.Joined.{legal-push}
+use Rattle.tq_shape.{specs.{Limits.LimitsView, Journal.state_at}, proofs.Joined.legal-push}
 use Rattle.tq_node.specs.NodeJournal.{NodeEntry, IsLegalNode}
 use Rattle.tq_desk.specs.DeskJournal.{DeskEntry, IsLegalDesk}
-use Rattle.tq_core.proofs.{Journaled.{bounds_of, HasEvents, run_events}, Worlds.{legal_nodes, legal_desk}}
 
 found_one : {A : Type 0} (o : Option A) (d : A) → is_some o ≡ true → o ≡ Some (unwrap_or o d)
 found_one None d is = absurd (false≢true is)
@@ -79,7 +78,7 @@ all_views world (step ∷ rest) legal = all_views (world_after world step) rest 
 
 run_view : (levels : ℕ) (limits : LimitsView) (steps : List Step) → HasLegalView (run levels limits steps)
 unfolding HasLegalView
-run_view levels limits steps = all_views (empty_world levels limits) steps tt
+run_view levels limits steps = all_views (no_entries levels limits) steps tt
 
 -- ---- the servers' journals
 

@@ -1,14 +1,12 @@
 -- Steps one after another: what they are told, and the run that they make.
 use Rattle.std.proofs.Common.{◌≡◌, ℕ, Bool, true, false, List, [], ◌∷◌, ◌++◌, length, Option, Some, None, refl, sym, ap, subst, ◌∙◌, nat_le}
-use Rattle.std.proofs.lemmas.List.Sums.{fold-append}
-use Rattle.std.specs.Prelude.{Result, Ok, Err, OnOk, OnErr, if◌then◌else◌}
+use Rattle.std.{proofs.lemmas.List.Sums.fold-append, specs.Prelude.{Result, Ok, Err, OnOk, OnErr, if◌then◌else◌}}
 use Rattle.tq_shape.specs.{declared.part.Part.Part, Journal.state_at}
 use Rattle.tq_tables.specs.Journals.{JournalsView}
 use Rattle.tq_node.specs.NodeJournal.{NodeEntry}
-use Rattle.tq_core.specs.declared.answer.{Answer.Answer, Refusal.Refusal, Step.Step}
+use Rattle.tq_core.specs.declared.{answer.{Answer.Answer, Refusal.Refusal, Step.Step}, citation.Citation.Citation}
 use Rattle.tq_core.specs.declared.answer.Refusal.TheVariants.{Memory, NoSuchServer, JournalFull, Unfounded}
-use Rattle.tq_core.specs.{declared.citation.Citation.Citation, World.item_at}
-use Rattle.tq_core.specs.Founded.{unfounded_in_node_ask, unfounded_in_desk_ask}
+use Rattle.tq_core.specs.{World.item_at, Founded.{unfounded_in_node_ask, unfounded_in_desk_ask}}
 use Rattle.tq_core.specs.Steps.{refuse_unfounded, refuse_at, refusal, answer, world_with_step, told_at, world_after, run_from, is_memory, taken_steps, IsTold, AreTold}
 use Rattle.tq_core.specs.declared.answer.Step.TheVariants as steps
 

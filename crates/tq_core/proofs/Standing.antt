@@ -11,8 +11,7 @@ use Rattle.tq_shape.specs.declared.part.Part.TheVariants as parts
 use Rattle.tq_shape.specs.declared.fault.AskFault.TheVariants as ask_faults
 use Rattle.tq_asks.specs.declared.ask.{NodeAsk.NodeAsk, NodeReply.NodeReply}
 use Rattle.tq_node.specs.{Node.NodeView, NodeJournal.NodeEntry, Records.node_reply}
-use Rattle.tq_desk.specs.{declared.ask.DeskAsk.DeskAsk, declared.ask.DeskReply.DeskReply, DeskJournal.DeskEntry}
-use Rattle.tq_desk.specs.DeskStep.{DeskView}
+use Rattle.tq_desk.specs.{declared.ask.{DeskAsk.DeskAsk, DeskReply.DeskReply}, DeskJournal.DeskEntry, DeskStep.DeskView}
 use Rattle.tq_desk.proofs.DecisionLog.{desk_keeps}
 use Rattle.tq_live.specs.{Live.{Live, best}, View.{view_reply, is_server, are_costs, choice_reply}}
 use Rattle.tq_live.specs.declared.{purpose.Purpose.Purpose, view.ViewAsk.ViewAsk, view.ViewReply.ViewReply}
@@ -21,17 +20,15 @@ use Rattle.tq_live.specs.declared.view.ViewReply.TheVariants.{CostSet, Marked, R
 use Rattle.tq_live.specs.declared.view.ViewRefusal.TheVariants.{NoSuchServer, BadCost}
 use Rattle.tq_tables.specs.Tables.{FollowsDesk, FollowsNode, FollowsView, MayAskNode, both, desk_replies, node_in, node_replies, view_replies, entries_of, with_node, TablesView, tables_of}
 use Rattle.tq_tables.specs.{declared.parts.Replies.Replies, Parts.{AreLegal, bounds_of, node_after_all}}
-use Rattle.tq_tables.specs.Journals.{JournalsView, AreJournals, IsOfTree, ViewEntry, with_desk, with_view}
-use Rattle.tq_tables.specs.Tabled.{journals_in}
-use Rattle.tq_tables.proofs.{Restood.{is_there, node_in-at, node_is}, RowLaws.desk_at-is}
-use Rattle.tq_core.specs.declared.{answer.Reply.Reply, answer.Step.Step, citation.Citation.Citation}
-use Rattle.tq_core.specs.{World.{item_at, empty_world, view_at}, Founded.{unfounded_in_node_ask, unfounded_in_desk_ask}}
-use Rattle.tq_core.specs.{Headline.OffersBest, Service.{answer_of, refusal_of, told_by, IsService}}
+use Rattle.tq_tables.specs.Journals.{JournalsView, AreJournals, IsOfTree, ViewEntry, with_desk, with_view, no_entries}
+use Rattle.tq_tables.{specs.Tabled.journals_in, proofs.{Restood.{is_there, node_in-at, node_is}, RowLaws.desk_at-is}}
+use Rattle.tq_core.specs.{declared.{answer.{Reply.Reply, Step.Step}, citation.Citation.Citation}, Headline.OffersBest}
+use Rattle.tq_core.specs.{World.{item_at, view_at}, Founded.{unfounded_in_node_ask, unfounded_in_desk_ask}}
+use Rattle.tq_core.{specs.Service.{answer_of, refusal_of, told_by, IsService}, proofs.Legal.{all_offered, legal_run}}
 use Rattle.tq_core.specs.Steps.{refuse_entry, refuse_at, refusal, answer, server_journal, node_entry, desk_entry, view_entry, world_with_step, world_after, run, IsOfRun, IsTold}
+use Rattle.tq_core.proofs.{Journaled.{entry_room, item_above, node_room}, Runs.{told_answer, told_refusal, world_grown}}
 use Rattle.tq_core.specs.declared.answer.Reply.TheVariants as replies
 use Rattle.tq_core.specs.declared.answer.Step.TheVariants as steps
-use Rattle.tq_core.proofs.{Legal.{all_offered, legal_run}, Journaled.{entry_room, item_above, node_room}}
-use Rattle.tq_core.proofs.Runs.{told_answer, told_refusal, world_grown}
 
 -- ---- whether an ask is taken
 
@@ -54,7 +51,7 @@ ran-push : (world : JournalsView) (step : Step) → refusal world step ≡ None 
 ran-push world step none done ran =
     sym (world_grown world step none)
     ∙ ap (λ (w : JournalsView). world_after w step) ran
-    ∙ sym (fold-append world_after (empty_world world.levels world.limits) done (step ∷ []))
+    ∙ sym (fold-append world_after (no_entries world.levels world.limits) done (step ∷ []))
 
 -- ---- an ask that is entered
 
@@ -333,7 +330,7 @@ module _ {V : Type 0} (items : V → List NodeEntry) (journals : List V) (tables
 
 -- ---- a new service
 
-pub opened : (tables : TablesView) (levels : ℕ) (limits : LimitsView) (world : JournalsView) → world ≡ empty_world levels limits → tables ≡ tables_of (empty_world levels limits) → IsService tables world
+pub opened : (tables : TablesView) (levels : ℕ) (limits : LimitsView) (world : JournalsView) → world ≡ no_entries levels limits → tables ≡ tables_of (no_entries levels limits) → IsService tables world
 opened tables levels limits world all stand =
     let positive : 0 < 2 ^ levels = pow_pos levels in
     let count : length (replicate {A = List NodeEntry} (2 ^ levels - 1) []) ≡ 2 ^ levels - 1 = length-replicate (2 ^ levels - 1) [] in

@@ -1,23 +1,22 @@
 -- A told copy is that of a commit, or was never written.
 use Rattle.std.proofs.Common.{◌≡◌, ℕ, suc, ◌≤◌, ◌<◌, Bool, true, false, cond, eqb, List, [], ◌∷◌, length, Option, Some, refl, sym, ap, subst, ◌∙◌, ◌⊎◌, inl, inr, arith}
-use Rattle.std.proofs.lemmas.Bool.{and_parts, eqb-true}
-use Rattle.std.specs.Prelude.{◌==◌, ◌&&◌}
+use Rattle.std.{proofs.lemmas.Bool.{and_parts, eqb-true}, specs.Prelude.{◌==◌, ◌&&◌}}
 use Rattle.tq_store.specs.declared.write.Write.{Write}
 use Rattle.tq_asks.specs.declared.ask.{CitedVote.CitedVote, HeldLock.HeldLock, Verdict.Verdict, WorkAsk.WorkAsk}
+use Rattle.tq_asks.specs.Verdicts.{IsCited}
 use Rattle.tq_asks.specs.declared.ask.Verdict.TheVariants as verdicts
 use Rattle.tq_asks.specs.declared.ask.WorkAsk.TheVariants as work
 use Rattle.tq_desk.specs.{declared.ask.DeskAsk.DeskAsk, declared.ask.DeskReply.DeskReply, DeskStep.cited_votes}
 use Rattle.tq_desk.specs.DeskJournal.{DeskBounds, DeskEntry, IsLegalDesk, final, Commit, with_commit, commits, IsWritten, DeskLaws, IsShown}
+use Rattle.tq_desk.proofs.DeskFinal.{commit-cases, commit-old}
 use Rattle.tq_desk.specs.declared.ask.DeskAsk.TheVariants as asks
 use Rattle.tq_desk.specs.declared.ask.DeskReply.TheVariants as replies
 use Rattle.tq_evidence.specs.{declared.op.Op.Op, declared.vote.Vote.Vote, Evidence.is_write}
-use Rattle.tq_shape.specs.Journal.{Has}
-use Rattle.tq_node.specs.NodeJournal.{NodeEntry, IsLegalNode, IsCited, inner, TellsAt, YesAt, InnerAt, DecisionAt, HasWrite}
+use Rattle.tq_shape.{specs.Journal.Has, proofs.Places.{at-before, at-bound, at-old, at-same, any-Has, Has-map}}
+use Rattle.tq_node.specs.NodeJournal.{NodeEntry, IsLegalNode, inner, TellsAt, YesAt, InnerAt, DecisionAt, HasWrite}
 use Rattle.tq_node.specs.NodeLaws.{NodeLaws, HasOrigin}
 use Rattle.tq_core.proofs.Worlds.{Event, AtNode, AtDesk, node_journal, desk_journal, IsRun, legal_nodes, legal_desk, founded_inner, founded_decision, founded_commits}
 use Rattle.tq_coterie.specs.Coterie.{is_quorum}
-use Rattle.tq_desk.proofs.DeskFinal.{commit-cases, commit-old}
-use Rattle.tq_shape.proofs.Places.{at-before, at-bound, at-old, at-same, any-Has, Has-map}
 
 -- a vote that a Commit's verdict cites
 pub cited-vote : (votes : List Vote) (s n : ℕ) → IsCited (verdicts.Commit (cited_votes votes)) s n → (vote : Vote) × Has votes vote × (vote.server ≡ s) × (vote.number ≡ n)

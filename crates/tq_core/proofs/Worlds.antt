@@ -2,18 +2,16 @@
 -- journals of a world as it grows: legal, and with founded entries.
 use Rattle.std.specs.Prelude.{◌≡◌, ℕ, Bool, true, cond, List, [], ◌∷◌, Option, Some}
 use Rattle.std.proofs.{Common.{eqb, false, None, refl, subst, ◌⊎◌, inl, inr}, lemmas.Bool.eqb-true}
-use Rattle.tq_shape.specs.Journal.{Has, entry_at}
+use Rattle.tq_shape.{specs.Journal.{Has, entry_at}, proofs.Places.{at-cases, at-old}}
 use Rattle.tq_asks.specs.declared.ask.{CitedVote.CitedVote, WorkAsk.WorkAsk, Verdict.Verdict}
 use Rattle.tq_asks.specs.declared.ask.WorkAsk.TheVariants as work
 use Rattle.tq_node.specs.Records.{node_reply}
 use Rattle.tq_node.specs.NodeJournal.{NodeEntry, node_state, inner, GrantAt, PeekAt, YesAt, IsLegalNode, InnerAt, DecisionAt}
-use Rattle.tq_desk.specs.{declared.ask.DeskAsk.DeskAsk, DeskStep.desk_reply}
+use Rattle.tq_desk.{specs.{declared.ask.DeskAsk.DeskAsk, DeskStep.desk_reply}, proofs.DeskFinal.commit-cases}
 use Rattle.tq_desk.specs.DeskJournal.{DeskBounds, DeskEntry, desk_state, VerdictAt, IsLegalDesk, Commit, commits}
 use Rattle.tq_desk.specs.declared.ask.DeskAsk.TheVariants as asks
 use Rattle.tq_evidence.specs.declared.{grant.Grant.Grant, op.Op.Op, vote.Vote.Vote}
 use Rattle.tq_desk.specs.declared.ask.DeskReply.TheVariants as replies
-use Rattle.tq_desk.proofs.DeskFinal.{commit-cases}
-use Rattle.tq_shape.proofs.Places.{at-cases, at-old}
 
 pub data Event : Type 0 where
   AtNode : ℕ → NodeEntry → Event
@@ -104,7 +102,7 @@ desk_stays (AtNode r e) world n y h = h
 
 pub founded_work_stays : (x : Event) (world : List Event) (a : Option WorkAsk) → IsFoundedWork world a → IsFoundedWork (x ∷ world) a
 founded_work_stays x world None h = tt
-founded_work_stays x world (Some (work.Lock t f m)) h = tt
+founded_work_stays x world (Some (work.Lock m t f)) h = tt
 founded_work_stays x world (Some (work.Prepare t w)) h = tt
 founded_work_stays x world (Some (work.Decide t v k)) h = record { entry = h.entry; is_there = desk_stays x world k h.entry h.is_there; gives = h.gives }
 founded_work_stays x world (Some (work.Release t)) h = tt

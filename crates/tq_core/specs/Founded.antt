@@ -29,7 +29,7 @@ cites_votes (verdicts.Commit cited) votes = pointwise cites cited votes
 
 -- a lock asked for by the transaction on the file was granted, as the grant has it
 abbrev pub is_granted : ℕ → List ℕ → Grant → NodeAsk → NodeReply → Bool
-is_granted txn file grant (node_asks.Work (work.Lock t f mode)) (node_replies.Granted version content) =
+is_granted txn file grant (node_asks.Work (work.Lock mode t f)) (node_replies.Granted version content) =
     t == txn && same_name f file && same_mode mode grant.mode && version == grant.version && same_name content grant.content
 is_granted txn file grant ask reply = false
 

@@ -2,8 +2,7 @@
 -- same things are told.
 use Rattle.std.specs.Prelude.{◌≡◌, Result, Ok, Err}
 use Rattle.tq_tables.specs.{Journals.{AreJournals, JournalsView}, Tables.{TablesView, tables_of}}
-use Rattle.tq_core.specs.{Steps.IsOfRun, declared.answer.Answer.Answer, declared.answer.Reply.Reply}
-use Rattle.tq_core.specs.declared.answer.Refusal.{Refusal}
+use Rattle.tq_core.specs.{Steps.IsOfRun, declared.answer.{Answer.Answer, Reply.Reply, Refusal.Refusal}}
 use Rattle.tq_shape.specs.declared.{fault.AskFault.AskFault, journaled.Answered.Answered}
 use Rattle.tq_shape.specs.declared.fault.AskFault.TheVariants as ask_faults
 use Rattle.tq_core.specs.declared.answer.Refusal.TheVariants as refusals

@@ -7,10 +7,10 @@ use Rattle.tq_asks.specs.declared.ask.NodeAsk.{NodeAsk}
 use Rattle.tq_node.specs.{Records.node_reply, NodeJournal.NodeEntry}
 use Rattle.tq_desk.specs.{declared.ask.DeskAsk.DeskAsk, DeskStep.desk_reply, DeskJournal.DeskEntry}
 use Rattle.tq_live.specs.{declared.view.ViewAsk.ViewAsk, View.view_reply}
-use Rattle.tq_tables.specs.Journals.{JournalsView, ViewEntry}
+use Rattle.tq_tables.specs.Journals.{JournalsView, ViewEntry, no_entries}
 use Rattle.tq_core.specs.declared.answer.{Answer.Answer, Refusal.Refusal, Step.Step}
 use Rattle.tq_core.specs.declared.answer.Refusal.TheVariants.{Memory, NoSuchServer, JournalFull, Unfounded}
-use Rattle.tq_core.specs.{declared.citation.Citation.Citation, World.{item_at, empty_world, node_at, desk_at, view_at}}
+use Rattle.tq_core.specs.{declared.citation.Citation.Citation, World.{item_at, node_at, desk_at, view_at}}
 use Rattle.tq_core.specs.Founded.{unfounded_in_node_ask, unfounded_in_desk_ask}
 use Rattle.tq_core.specs.declared.answer.Reply.TheVariants as replies
 use Rattle.tq_core.specs.declared.answer.Step.TheVariants as steps
@@ -86,7 +86,7 @@ run_from world steps = fold world_after world steps
 
 -- the world after a list of steps, from empty journals
 abbrev pub run : ℕ → LimitsView → List Step → JournalsView
-run levels limits steps = run_from (empty_world levels limits) steps
+run levels limits steps = run_from (no_entries levels limits) steps
 
 -- the journals are those of a list of steps
 abbrev pub IsOfRun : JournalsView → Type 0

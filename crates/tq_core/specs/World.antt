@@ -1,11 +1,10 @@
 -- The world: all journals, and where the parts stand after them. The journal of a part.
 use Rattle.std.specs.Prelude.{◌-◌, ℕ, cond, nat_lt, List, Option, None, slice_get, Some}
 use Rattle.std.specs.Option.{option_and_then, option_map}
-use Rattle.tq_shape.specs.Limits.{LimitsView}
-use Rattle.tq_tables.specs.Journals.{JournalsView, no_entries, ViewEntry}
+use Rattle.tq_shape.specs.{Limits.LimitsView, declared.part.Part.Part}
+use Rattle.tq_tables.specs.Journals.{JournalsView, ViewEntry}
 use Rattle.tq_node.specs.NodeJournal.{NodeEntry}
 pub use Rattle.tq_tables.specs.Parts.{node_at, desk_at, view_at}
-use Rattle.tq_shape.specs.declared.part.Part.{Part}
 use Rattle.tq_shape.specs.declared.part.Part.TheVariants as parts
 use Rattle.tq_desk.specs.DeskJournal.{DeskEntry}
 use Rattle.tq_core.specs.declared.answer.Journal.{Journal}
@@ -14,10 +13,6 @@ use Rattle.tq_core.specs.declared.answer.Journal.TheVariants as lent
 -- the item of a number, from 1
 abbrev pub item_at : {E : Type 0} → List E → ℕ → Option E
 item_at items number = cond (nat_lt 0 number) (slice_get items (number - 1)) None
-
--- all journals, before anything was asked
-abbrev pub empty_world : ℕ → LimitsView → JournalsView
-empty_world levels limits = no_entries levels limits
 
 -- the entry of a number in a server's journal
 abbrev pub server_entry : JournalsView → ℕ → ℕ → Option NodeEntry

@@ -55,10 +55,11 @@ impl Service {
     ghost use Rattle.tq_core.specs.Steps as spec;
     ghost use Rattle.tq_core.specs.Headline.{HasCommittedReads, OffersBest, AreOffered, Headline};
     ghost use Rattle.tq_core.specs.Service.{answer_of, told_by};
+    ghost use Rattle.tq_tables.specs.Journals.{no_entries};
 
     /// A service that was asked nothing: each server is up and has stored nothing.
     pub fn new(alloc: Global, levels: Levels, limits: Limits) -> Result<Service, Memory>
-        ensures { IfOk result (λ service. service ≡ world.empty_world levels limits) }
+        ensures { IfOk result (λ service. service ≡ no_entries levels limits) }
     {
         let tabled = TabledJournals::new(alloc, levels, limits)?;
         Ok(Service { tabled })

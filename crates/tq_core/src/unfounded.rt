@@ -149,7 +149,7 @@ fn is_founded_work<E: CitedEntries>(entries: &E, ask: &WorkAsk) -> bool
             version,
             content,
             from,
-        } => is_founded_copy(entries, *file, *version, content, *from),
+        } => is_founded_copy(entries, *file.get(), *version, content.get(), *from),
         _ => true,
     }
 }

@@ -10,9 +10,9 @@ use Rattle.std.specs.Int.{Bits.mask_lt, Count.count_leading_zeros}
 use Rattle.tq_coterie.specs.Coterie.{coterie, has, is_quorum, numbers_of, servers_of, IsLeastOfBoth, IsMemberList}
 use Rattle.tq_coterie.specs.Parts.{part_of, part_from_sides, member_or_empty, is_marked, part_at, AreMarksOf, IsBare, IsRaised}
 use Rattle.tq_coterie.specs.declared.holding.{Overlap.Overlap, Overlap.TheVariants.{Empty, Member, Neither}}
-use Rattle.tq_shape.specs.{ServerSet.Ascends, Tree.{Server, left_of, right_of, height_of}}
 use Rattle.tq_coterie.proofs.{Members.members-meet, Parts.{Ascends-member, part_of-leaf, part_of-fork}}
 use Rattle.tq_coterie.proofs.Sets.{has-below, has-head}
+use Rattle.tq_shape.specs.{ServerSet.Ascends, Tree.{Server, left_of, right_of, height_of}}
 use Rattle.tq_shape.proofs.Tree.{height_of-side, height_of-leaf, right_within}
 
 -- an answer that says whether the numbers are a member is the test

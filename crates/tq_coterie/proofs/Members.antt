@@ -2,9 +2,8 @@
 -- member of the subtree over that server. Any two members of one tree have a server in common.
 use Rattle.std.proofs.Common.{◌≡◌, ℕ, ◌<◌, zero, suc, List, [], ◌∷◌, ◌++◌, map, true, false, ◌||◌, eqb, refl, sym, inl, inr, arith, ap, ◌∙◌, ◌/◌, ◌-◌}
 use Rattle.std.proofs.lemmas.Bool.{eqb-true, or_cases, false≢true, false_from_ne_true, cases_eq, or_left, or_right}
-use Rattle.std.proofs.lemmas.List.{get_or-map, length-map}
+use Rattle.std.{proofs.lemmas.List.{get_or-map, length-map}, specs.List.{All, Contains}}
 use Rattle.std.proofs.lemmas.List.Elements.{All-nil, All-cons, All-head, All-tail, All-append, All-map, All-weaker, All-contains, Contains-append_left, Contains-append_right}
-use Rattle.std.specs.List.{All, Contains}
 use Rattle.tq_shape.specs.{Tree.{left_of, right_of, stands_in}, ServerSet.Ascends}
 use Rattle.tq_shape.proofs.Tree.{sides_apart, stands_in-top, stands_in-left, stands_in-right}
 use Rattle.tq_coterie.specs.Coterie.{union_of, joined_pairs, members, has, Meets, AnyTwoMeet}

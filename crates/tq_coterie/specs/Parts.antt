@@ -3,8 +3,7 @@
 use Rattle.std.specs.Prelude.{ℕ, zero, suc, Bool, true, false, cond, List, ◌≡◌, ◌<◌, ◌||◌, ◌/◌, ◌%◌, ◌==◌, slice_index}
 use Rattle.std.specs.Int.{bit_at}
 use Rattle.tq_shape.specs.Tree.{left_of, right_of}
-use Rattle.tq_coterie.specs.{Coterie.has, declared.holding.Overlap.Overlap}
-use Rattle.tq_coterie.specs.declared.holding.Overlap.TheVariants.{Empty, Member, Neither}
+use Rattle.tq_coterie.specs.{Coterie.has, declared.holding.Overlap.{Overlap, TheVariants.{Empty, Member, Neither}}}
 
 -- from whether the top is in the set, and the parts of the sides
 abbrev pub part_from_sides : Bool → Overlap → Overlap → Overlap

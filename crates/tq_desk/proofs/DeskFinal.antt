@@ -1,24 +1,23 @@
 -- The laws of the desk's journal: what is told is final, and a commit is fresh.
 use Rattle.std.specs.{Prelude.{not, nat_le, ◌&&◌}, Cmp.nat_cmp_total, Ordering.{nat_cmp, is_eq, eq_by_cmp}}
-use Rattle.std.specs.FinMap.{nat_cmp-IsAntisymmetric}
+use Rattle.std.{specs.FinMap.nat_cmp-IsAntisymmetric, proofs.lemmas.{Cmp.tied_itself, Bool.Decides.nat_tests}}
 use Rattle.std.proofs.Common.{◌≡◌, ℕ, suc, ◌+◌, ◌++◌, arith, true, List, [], ◌∷◌, length, Option, Some, None, refl, sym, ap, subst, ◌∙◌, ◌⊎◌, inl, inr}
-use Rattle.std.proofs.lemmas.{Cmp.tied_itself, Bool.Decides.nat_tests}
 use Rattle.std.proofs.lemmas.Bool.{cases_Bool, cond-true, cond-false, false≢true, not-false}
 use Rattle.std.specs.FinMap as fin
 use Rattle.tq_shape.specs.Journal.{Has, refuse, state_at, refuse-none}
+use Rattle.tq_shape.proofs.{Places.{at-cases, at-old, at-new, Some-same}, Options.is_eq-Equal}
 use Rattle.tq_coterie.specs.Coterie.{is_quorum}
-use Rattle.tq_asks.specs.declared.ask.Verdict.{Verdict}
+use Rattle.tq_asks.specs.{declared.ask.Verdict.Verdict, Verdicts.IsCited}
 use Rattle.tq_asks.specs.declared.ask.Verdict.TheVariants as verdicts
 use Rattle.tq_desk.specs.declared.ask.{DeskAsk.DeskAsk, DeskRefusal.DeskRefusal, DeskReply.DeskReply}
 use Rattle.tq_desk.specs.DeskStep.{DeskView, Finals, is_begun, cited_votes, finals_after_resolve, desk_refusal, final_or_abort, desk_answer, desk_answered, reply_at, desk_reply, desk_after}
-use Rattle.tq_desk.specs.DeskJournal.{DeskBounds, DeskEntry, desk_state, IsLegalDesk, final, Commit, with_commit, commits, gives_verdict, VerdictAt, DeskLaws, IsCited, IsShown}
+use Rattle.tq_desk.specs.DeskJournal.{DeskBounds, DeskEntry, desk_state, IsLegalDesk, final, Commit, with_commit, commits, gives_verdict, VerdictAt, DeskLaws, IsShown}
 use Rattle.tq_desk.specs.DecisionLog.{EndsAreTold}
+use Rattle.tq_desk.proofs.{Shown.shown_by, DecisionLog.{commit_decided, commit_open, desk_keeps, ends_stay}}
 use Rattle.tq_desk.specs.declared.ask.DeskAsk.TheVariants as asks
 use Rattle.tq_desk.specs.declared.ask.DeskRefusal.TheVariants as refusals
 use Rattle.tq_desk.specs.declared.ask.DeskReply.TheVariants as replies
 use Rattle.tq_evidence.specs.{declared.op.Op.Op, declared.vote.Vote.Vote, Evidence.{failed_rule, IsGood}}
-use Rattle.tq_shape.proofs.{Places.{at-cases, at-old, at-new, Some-same}, Options.is_eq-Equal}
-use Rattle.tq_desk.proofs.{Shown.shown_by, DecisionLog.{commit_decided, commit_open, desk_keeps, ends_stay}}
 
 -- ---- commits
 

@@ -6,16 +6,16 @@ use Rattle.std.proofs.Common.{◌≡◌, ℕ, suc, ◌≤◌, ◌+◌, max, Bool
 use Rattle.std.proofs.lemmas.Cmp.{upto, tied_itself, nat_list_cmp_total}
 use Rattle.std.proofs.lemmas.Bool.{and_parts, eq-eqb, eqb-true, leb-true, cond-true, cond-false, false≢true, true≢false, cases_lt}
 use Rattle.tq_shape.specs.Journal.{Has}
+use Rattle.tq_shape.proofs.Places.{Has-filter, filter-Has, Has-map, any-Has, Has-any, all-Has, find-Has}
 use Rattle.tq_store.specs.{Copies.name_cmp, declared.write.Write.Write as FileWrite, Names.same_name}
+use Rattle.tq_store.proofs.Padded.{same_name-is}
 use Rattle.tq_coterie.specs.Coterie.{is_quorum}
 use Rattle.tq_asks.specs.declared.ask.HeldLock.{HeldLock}
 use Rattle.tq_evidence.specs.declared.{grant.Grant.Grant, op.Op.Op, rule.Rule.Rule, vote.Vote.Vote}
 use Rattle.tq_evidence.specs.Evidence.{is_write, servers_of, has_server, rises, are_quorums, are_exclusive, covers, are_covered, place_of, put_op, writes_by_file, is_write_of, are_writes_at, have_writes, greatest, stands_before, ops_rise, reads_copy, has_version, have_versions, rule_unless, IsGood}
+use Rattle.tq_evidence.proofs.HeldTable.{Has-put, put-Has}
 use Rattle.tq_evidence.specs.Evidence as evidence
 use Rattle.tq_desk.specs.DeskJournal.{HasTop, IsCovered, IsShown}
-use Rattle.tq_evidence.proofs.HeldTable.{Has-put, put-Has}
-use Rattle.tq_shape.proofs.Places.{Has-filter, filter-Has, Has-map, any-Has, Has-any, all-Has, find-Has}
-use Rattle.tq_store.proofs.Padded.{same_name-is}
 
 -- ---- the rules that hold
 

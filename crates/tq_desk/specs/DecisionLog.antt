@@ -4,10 +4,9 @@ use Rattle.std.specs.List.{list_any}
 use Rattle.std.specs.FinMap as fin
 use Rattle.tq_shape.specs.Journal.{entry, refuse, refuse_for}
 use Rattle.tq_asks.specs.declared.ask.Verdict.{Verdict as Final}
-use Rattle.tq_desk.specs.declared.ask.{DeskAsk.DeskAsk, DeskAsk.TheVariants.{Begin, Commit, Resolve}}
-use Rattle.tq_desk.specs.declared.ask.{DeskRefusal.DeskRefusal, DeskReply.DeskReply}
+use Rattle.tq_desk.specs.declared.ask.{DeskAsk.{DeskAsk, TheVariants.{Begin, Commit, Resolve}}, DeskRefusal.DeskRefusal}
+use Rattle.tq_desk.specs.declared.ask.DeskReply.{DeskReply, TheVariants.{Txn, Verdict, Committed}}
 use Rattle.tq_desk.specs.declared.ask.DeskRefusal.TheVariants.{NoSuchTxn, Decided, TooManyOps, BadEvidence, TooManyFiles}
-use Rattle.tq_desk.specs.declared.ask.DeskReply.TheVariants.{Txn, Verdict, Committed}
 use Rattle.tq_desk.specs.DeskStep.{DeskView, final_or_abort, reply_at, with_files}
 use Rattle.tq_desk.specs.DeskJournal.{DeskBounds, DeskEntry, begin_count, commits, desk_state, final, IsLegalDesk, written_files}
 use Rattle.tq_evidence.specs.Evidence.{failed_rule, writes_file}

@@ -5,7 +5,7 @@ use Rattle.std.specs.{List.find, Coded.{Coded, code_by, coded×, coded_list, cod
 use Rattle.std.specs.FinMap as fin
 use Rattle.tq_shape.specs.{Journal.{entry_at, Has, IsLegal, state_after, or_else}, Limits.LimitsView}
 use Rattle.tq_shape.specs.declared.part.Entry.{Entry}
-use Rattle.tq_asks.specs.{declared.ask.Verdict.Verdict, declared.ask.HeldLock.HeldLock, Verdicts.cites_vote}
+use Rattle.tq_asks.specs.{declared.ask.Verdict.Verdict, declared.ask.HeldLock.HeldLock, Verdicts.IsCited}
 use Rattle.tq_asks.specs.declared.ask.Verdict.TheVariants as verdicts
 use Rattle.tq_desk.specs.declared.ask.{DeskAsk.DeskAsk, DeskReply.DeskReply}
 use Rattle.tq_desk.specs.DeskStep.{DeskView, FileSet, cited_votes, desk_after, desk_reply, opening_desk, with_files, Finals}
@@ -142,10 +142,6 @@ pub record IsWritten (list : List Commit) (file : List ℕ) (version : ℕ) (con
   pub of_content : op.content ≡ content
 
 -- ---- laws
-
--- the verdict is Commit and cites the vote
-abbrev pub IsCited : Verdict → ℕ → ℕ → Type 0
-IsCited verdict server number = cites_vote verdict server number ≡ true
 
 -- a grant of the op has the greatest version
 pub record HasTop (op : Op) (top : Grant) : Type 0 where

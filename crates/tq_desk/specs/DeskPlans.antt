@@ -1,6 +1,7 @@
 -- What an ask of the desk is to change, and the desk with a change made. The desk's plans may be made, and lead where
 -- its asks do; its settings stay, and at most one transaction begins.
 use Rattle.std.specs.Prelude.{◌≡◌, ℕ, ◌+◌, List, Option, Some, None, map, filter, fold, not}
+use Rattle.std.proofs.Common.{◌≤◌, ◌<◌, [], ◌∷◌, refl, ap, arith}
 use Rattle.std.specs.FinMap as fin
 use Rattle.tq_asks.specs.declared.ask.{CitedVote.CitedVote, Verdict.Verdict}
 use Rattle.tq_asks.specs.declared.ask.Verdict.TheVariants as verdicts
@@ -11,7 +12,6 @@ use Rattle.tq_desk.specs.declared.ask.DeskAsk.TheVariants as asks
 use Rattle.tq_shape.specs.{declared.answers.Plan.Plan, Limits.LimitsView}
 use Rattle.tq_shape.specs.Journal.{state_at, refuse-none, refuse_for-none}
 use Rattle.tq_evidence.specs.{declared.op.Op.Op, Evidence.is_write, declared.vote.Vote.Vote}
-use Rattle.std.proofs.Common.{◌≤◌, ◌<◌, [], ◌∷◌, refl, ap, arith}
 use Rattle.tq_desk.specs.declared.ask.DeskRefusal.TheVariants as refusals
 
 -- the files that the ops write, one after another

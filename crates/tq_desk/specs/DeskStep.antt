@@ -4,13 +4,12 @@ use Rattle.std.specs.Ordering.{nat_cmp}
 use Rattle.std.specs.FinMap as fin
 use Rattle.tq_shape.specs.{Limits.LimitsView, Journal.{refuse, refuse_for, state_at}}
 use Rattle.tq_store.specs.Copies.{name_cmp}
-use Rattle.tq_asks.specs.declared.ask.CitedVote.{CitedVote}
 use Rattle.tq_asks.specs.declared.ask.Verdict as verdict
 use Rattle.tq_asks.specs.declared.ask.Verdict.TheVariants as verdicts
-use Rattle.tq_desk.specs.declared.ask.{DeskAsk.DeskAsk, DeskAsk.TheVariants.{Begin, Commit, Resolve}}
-use Rattle.tq_desk.specs.declared.ask.{DeskRefusal.DeskRefusal, DeskReply.DeskReply}
+pub use Rattle.tq_desk.specs.Ballots.{citation, cited_votes}
+use Rattle.tq_desk.specs.declared.ask.{DeskAsk.{DeskAsk, TheVariants.{Begin, Commit, Resolve}}, DeskRefusal.DeskRefusal}
+use Rattle.tq_desk.specs.declared.ask.DeskReply.{DeskReply, TheVariants.{Txn, Verdict, Committed, Refused}}
 use Rattle.tq_desk.specs.declared.ask.DeskRefusal.TheVariants.{NoSuchTxn, Decided, TooManyOps, BadEvidence, TooManyFiles}
-use Rattle.tq_desk.specs.declared.ask.DeskReply.TheVariants.{Txn, Verdict, Committed, Refused}
 use Rattle.tq_evidence.specs.{declared.op.Op.Op, declared.vote.Vote.Vote, Evidence.{failed_rule, is_write, IsGood}}
 
 -- how each transaction ended that has
@@ -33,13 +32,6 @@ pub record DeskView : Type 0 where
 
 abbrev pub is_begun : DeskView → ℕ → Bool
 is_begun old txn = nat_le 1 txn && nat_le txn old.begun
-
--- a commit's record: the servers and numbers of its votes
-abbrev pub citation : Vote → CitedVote
-citation vote = record { server = vote.server; number = vote.number }
-
-abbrev pub cited_votes : List Vote → List CitedVote
-cited_votes votes = map citation votes
 
 abbrev pub with_file : FileSet → List ℕ → FileSet
 with_file files name = fin.insert files name tt

@@ -1,4 +1,5 @@
 pub use Rattle.tq_evidence.specs.Evidence
+pub mod Ballots
 pub mod DeskStep
 pub mod DeskJournal
 pub mod DecisionLog

@@ -1,11 +1,12 @@
 //! What the desk is asked and what it replies.
 
+use crate::Ballot;
 use tq_asks::Verdict;
-use tq_evidence::{Op, Rule, Vote};
+use tq_evidence::{Op, Rule};
 use tq_shape::SharedSeq;
 
 /// What a desk is asked.
-#[derive(Drop, Clone, PartialEq)]
+#[derive(Drop, Clone)]
 pub enum DeskAsk {
     /// A transaction more.
     Begin,
@@ -13,7 +14,7 @@ pub enum DeskAsk {
     Commit {
         txn: u64,
         ops: SharedSeq<Op>,
-        votes: SharedSeq<Vote>,
+        votes: Ballot,
     },
     /// How the transaction ended; one that has not yet aborts.
     Resolve {

@@ -9,7 +9,7 @@ ghost use Rattle.tq_desk.specs.DeskStep as spec;
 
 use crate::files::{WrittenFiles, written_names};
 use crate::finals::Finals;
-use crate::{ByRules, DeskAsk, DeskRefusal, DeskReply, Judge};
+use crate::{Ballot, ByRules, DeskAsk, DeskRefusal, DeskReply, Judge};
 use std::alloc::Global;
 use std::marker::Model;
 use tq_asks::{CitedVote, Verdict};
@@ -154,7 +154,7 @@ impl Desk {
                 })
             }
             DeskAsk::Commit { txn, ops, votes } => {
-                let plan = self.plan_commit::<J>(alloc, *txn, ops.as_slice(), votes.as_slice())?;
+                let plan = self.plan_commit::<J>(alloc, *txn, ops.as_slice(), votes)?;
                 Ok(plan)
             }
             DeskAsk::Resolve { txn } => {
@@ -223,16 +223,16 @@ impl Desk {
         alloc: Global,
         txn: u64,
         ops: &[Op],
-        votes: &[Vote],
+        votes: &Ballot,
     ) -> Result<Plan<DeskReply, DeskChange>, Memory>
         requires { J.takes self.now.levels (DeskAsk.Commit txn ops.now votes.now) }
         ensures { IfOk result (IsDeskPlan self.now (DeskAsk.Commit txn ops.now votes.now)) }
     {
-        match self.commit_refusal::<J>(alloc, txn, ops, votes)? {
+        match self.commit_refusal::<J>(alloc, txn, ops, votes.as_slice())? {
             Some(reason) => Ok(refusal_plan(reason)),
             None => {
                 let _ended = self.finals.len();
-                let votes = cited_votes(alloc, votes)?;
+                let votes = votes.cited()?;
                 let files = written_names(alloc, ops)?;
                 Ok(Plan {
                     reply: DeskReply::Committed {
@@ -339,21 +339,6 @@ fn refusal_plan(reason: DeskRefusal) -> Plan<DeskReply, DeskChange>
         reply: DeskReply::Refused(reason),
         change: DeskChange::Nothing,
     }
-}
-
-/// The votes as a commit's record cites them.
-#[inline(always)]
-pub fn cited_votes(alloc: Global, votes: &[Vote]) -> Result<SharedSeq<CitedVote>, Memory>
-    ensures { IfOk result (λ list. list ≡ spec.cited_votes votes.now) }
-{
-    let mut cited = Vec::with_capacity(alloc, votes.len())?;
-    for vote in votes {
-        cited.push_reserved(CitedVote {
-            server: vote.server,
-            number: vote.number,
-        });
-    }
-    Ok(SharedSeq::from_vec(cited)?)
 }
 
 /// What an ask changes in a desk.

@@ -6,6 +6,7 @@
 
 mod answers;
 mod ask;
+mod ballot;
 mod desk;
 mod files;
 mod finals;
@@ -13,7 +14,8 @@ mod judge;
 mod laws;
 
 pub use ask::{DeskAsk, DeskRefusal, DeskReply};
-pub use desk::{Desk, DeskChange, cited_votes};
+pub use ballot::Ballot;
+pub use desk::{Desk, DeskChange};
 pub use judge::{ByProof, ByRules, Judge};
 pub use laws::{decision_log, desk_laws};
 pub use tq_evidence::{Grant, Op, OpKind, Rule, Vote};

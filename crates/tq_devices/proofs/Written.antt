@@ -2,8 +2,7 @@
 -- What devices gave and took, one call after another.
 use Rattle.std.proofs.Common.{◌≡◌, ℕ, ◌+◌, ◌-◌, ◌≤◌, List, ◌++◌, length, drop, take, sym, ap, ◌∙◌, arith, [], Some, None, Option, subst, append_assoc}
 use Rattle.std.proofs.lemmas.List.{take-append-drop, take_all, take_at, drop-drop, length-drop, length-take-le, append-nil}
-use Rattle.std.proofs.Math.Seq.{take-add}
-use Rattle.std.specs.Io.KnownBytes.{Appends, Keeps}
+use Rattle.std.{proofs.Math.Seq.take-add, specs.Io.KnownBytes.{Appends, Keeps}}
 
 pub given_more : (bytes buffer rest copied : List ℕ) (place count : ℕ) → rest ≡ drop place bytes → copied ≡ take count rest → count ≤ length rest → take (place + count) bytes ≡ take place bytes ++ take count (copied ++ drop count buffer)
 given_more bytes buffer rest copied place count is copy few =

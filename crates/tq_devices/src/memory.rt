@@ -19,8 +19,7 @@ pub struct MemorySource<'a> {
 }
 
 impl<'a> Model for MemorySource<'a> {
-    ghost use Rattle.std.specs.Prelude.{◌≤◌, ◌<◌, take, drop};
-    ghost use Rattle.std.proofs.Common.{length};
+    ghost use Rattle.std.{specs.Prelude.{◌≤◌, ◌<◌, take, drop}, proofs.Common.length};
     ghost use Rattle.tq_devices.specs.Devices.{KnownSource};
 
     ghost Value = { KnownSource };

@@ -2,19 +2,17 @@
 -- The write ops in order by file are those ops.
 use Rattle.std.proofs.Common.{◌≡◌, ℕ, cond, List, [], ◌∷◌, Some, refl, ap, sym, ◌∙◌, Bool, true, false, Option, None, arith, take, drop, fold, filter, subst, ◌⊎◌, inl, inr}
 use Rattle.std.proofs.lemmas.{Bool.Decides.nat_tests, List.take-append-drop}
-use Rattle.std.specs.BTreeMap as ordered
 use Rattle.std.specs.{BTreeMap.{BTreeMap, is_at}, Cmp.eq_by_cmp_equiv, List.{insert as put_into, list_any, list_all}}
 use Rattle.std.specs.{Cmp.Lexicographic.{nat_list_cmp_total, texts_ties}, Map.lookup, Ordering.eq_by_cmp}
 use Rattle.std.specs.FinMap.{find, get, insert, from_entries, get-from_entries, get-insert, same_map, nat_cmp-IsAntisymmetric, slice_cmp-IsAntisymmetric}
 use Rattle.std.specs.{Prelude.{◌&&◌, ◌||◌, nat_le, min}, Cmp.Derive.both_true}
-use Rattle.tq_store.specs.{Copies.name_cmp, Names.same_name}
+use Rattle.std.specs.BTreeMap as ordered
+use Rattle.tq_store.{specs.{Copies.name_cmp, Names.same_name}, proofs.Padded.same_name-is}
 use Rattle.std.specs.FinMap as fin
 use Rattle.tq_asks.specs.declared.ask.HeldLock.{HeldLock}
 use Rattle.tq_evidence.specs.Evidence.{LeastSince, is_since, least_since, lesser, with_since, noted_all, is_write, place_of, put_op, rises, servers_of, writes_by_file, are_in_order}
 use Rattle.tq_evidence.specs.declared.op.Op.{Op}
-use Rattle.tq_store.proofs.Padded.{same_name-is}
-use Rattle.tq_shape.specs.Journal.{Has}
-use Rattle.tq_shape.proofs.Places.{Has-append, append-Has, all-Has, Has-filter}
+use Rattle.tq_shape.{specs.Journal.Has, proofs.Places.{Has-append, append-Has, all-Has, Has-filter}}
 
 module _ {X : Type 0} where
   find_at : (q : List ℕ) (es : List (List ℕ × X)) → find name_cmp q es ≡ lookup (is_at (name_cmp q)) es

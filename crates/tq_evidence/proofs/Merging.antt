@@ -1,9 +1,8 @@
 -- Where grants and votes strictly ascend by server, each grant's vote is found by one walk through both. Grants that
 -- strictly ascend by server: what is looked for stands before or after the one in the middle.
 use Rattle.std.proofs.Common.{◌≡◌, ℕ, ◌<◌, ◌≤◌, Bool, true, false, ◌&&◌, ◌||◌, cond, List, [], ◌∷◌, map, nat_lt, nat_eq, arith, refl, ap, sym, ◌∙◌, ◌+◌, ◌-◌, length, length-drop, take, drop, get_or, ◌++◌}
-use Rattle.std.proofs.lemmas.{Bool.{and_parts, eq-eqb}, Bool.Decides.nat_tests}
+use Rattle.std.{proofs.lemmas.Bool.{and_parts, eq-eqb, Decides.nat_tests}, specs.{Cmp.Derive.both_true, List.list_all}}
 use Rattle.std.proofs.lemmas.List.{at_drop_more, take_all, take-append-drop}
-use Rattle.std.specs.{Cmp.Derive.both_true, List.list_all}
 use Rattle.tq_coterie.specs.Coterie.{is_quorum}
 use Rattle.tq_evidence.specs.declared.{grant.Grant.Grant, op.Op.Op, vote.Vote.Vote}
 use Rattle.tq_evidence.specs.Evidence.{are_grants_covered, covers, holds_since, has_quorum, are_quorums, is_grant_covered, rises, servers_of, votes_rise, granters, are_in_order, are_walked, walk, is_granter}

@@ -9,8 +9,7 @@ use Rattle.std.specs.{Prelude.{◌&&◌, ◌≤◌}, List.Sorted.{IsSortedByKey,
 use Rattle.std.specs.declared.cmp.Ordering.TheVariants.{Less, Equal, Greater}
 use Rattle.tq_store.specs.Copies.{name_cmp}
 use Rattle.tq_evidence.specs.{declared.op.Op.Op, Evidence.{place_among, place_of, put_op}}
-use Rattle.tq_shape.specs.Journal.{Has}
-use Rattle.tq_shape.proofs.Places.{Has-filter}
+use Rattle.tq_shape.{specs.Journal.Has, proofs.Places.Has-filter}
 
 module _ {X : Type 0} (now : X → Op) where
   prefix_len-now : (p : Op → Bool) (xs : List X) → prefix_len p (map now xs) ≡ prefix_len (λ x. p (now x)) xs

@@ -1,13 +1,12 @@
 -- Lines in bytes, and that bytes have their lines in one way alone. Lines lead to one part alone. A line that was not
 -- written whole.
 use Rattle.std.proofs.Common.{◌≡◌, ℕ, zero, suc, ◌+◌, ◌<◌, ◌≤◌, ◌==◌, cond, List, [], ◌∷◌, ◌++◌, length, take, drop, slice_index, refl, sym, ap, subst, ◌∙◌, arith, append_assoc, drop-cons, Option, Some, Err}
-use Rattle.std.proofs.lemmas.{List.{append-nil, take_all, take-append-drop}, Bool.ne_eqb}
+use Rattle.std.{proofs.lemmas.{List.{append-nil, take_all, take-append-drop}, Bool.ne_eqb}, specs.Option.unwrap_or}
 use Rattle.std.proofs.Math.Seq.{take-add, take-append_seam}
 use Rattle.memchr.specs.Find.{Nowhere, Passes, is_byte}
 use Rattle.tq_board.proofs.ReadBack.{no-feed-append}
 use Rattle.tq_host.specs.Lines.{BeginsWith, HasNoFeed, IsLine, AreLines, text_of, Enters, AreEntered, IsLogOf, StopsAt}
 use Rattle.tq_host.specs.Hosted.{IsFront}
-use Rattle.std.specs.Option.{unwrap_or}
 use Rattle.tq_shape.specs.{declared.part.Entry.Entry, Agrees.{Standing, next_number, state_after_entry}}
 use Rattle.tq_devices.specs.{Devices.IsWritten, declared.fault.RunFault.RunFault}
 use Rattle.tq_devices.specs.declared.fault.RunFault.TheVariants.{Memory, Read, Write, TooLong}

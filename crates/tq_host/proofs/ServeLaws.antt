@@ -1,11 +1,11 @@
 -- Answers that are put. What lines and what goes out do to what was served.
 use Rattle.std.proofs.Common.{◌≡◌, ℕ, List, [], ◌++◌, sym, ◌∙◌, ◌<◌, ◌≤◌, ◌^◌, ◌+◌, ◌-◌, length, ◌∷◌, Option, take, drop, refl, ap, subst, inl, inr, arith, append_assoc}
 use Rattle.std.proofs.lemmas.List.{append-nil, length-append, take-append-drop, drop-take, drop-drop}
+use Rattle.std.specs.Io.KnownBytes.{Appends, Keeps}
 use Rattle.tq_host.specs.Told.{bad, full, memory, bad_text, full_text, memory_text, Told, entered, Exchange, AreTold, IsTold, asked_text, logged_text, answered_text, standing_after, goes_on, log_line, answer_line, Batched, with_told, nothing_left, IsHalfOut}
 use Rattle.tq_host.specs.{Lines.{HasNoFeed, IsLine, IsLogOf}, declared.fault.HostFault.HostFault}
 use Rattle.tq_host.specs.Served.{Restarts, IsServing, IsAllServed, IsCutOff, IsLong}
 use Rattle.tq_host.specs.declared.fault.HostFault.TheVariants.{Memory, Read, Write, TooLong, Log}
-use Rattle.std.specs.Io.KnownBytes.{Appends, Keeps}
 use Rattle.tq_devices.proofs.Written.{Appends-none, Appends-then, Appends-kept}
 use Rattle.tq_shape.specs.{declared.part.Entry.Entry, Agrees.Standing}
 use Rattle.tq_board.proofs.ReadBack.{no-feed-append}

@@ -1,9 +1,8 @@
 //! Servers, the desk and the view as parts that answer lines, in the form of journal files.
 
 ghost use Rattle.tq_json.specs.declared.format.Format.TheVariants.{Two};
-ghost use Rattle.tq_json_read.specs.Frame.{IsAlone};
+ghost use Rattle.tq_json_read.{specs.Frame.IsAlone, proofs.Places.alone-once};
 ghost use Rattle.tq_json_read.specs.Frame as entries;
-ghost use Rattle.tq_json_read.proofs.Places.{alone-once};
 ghost use Rattle.tq_board.specs.Lines.{entry_line, answer_line};
 
 use crate::wire::Wire;

@@ -2,16 +2,16 @@
 -- copies that a list keeps, each as the first of the file's records with the greatest version.
 use Rattle.std.proofs.Common.{◌≡◌, ℕ, Bool, false, cond, ◌||◌, List, [], ◌∷◌, ◌++◌, map, Option, Some, None, refl, ap, sym, subst, ◌∙◌, append_assoc, ◌+◌, ◌-◌, take, length, get_or, true, ◌&&◌, ◌<◌, ◌≤◌, filter, arith, nat_lt, nat_le, ◌==◌, max}
 use Rattle.std.proofs.lemmas.{List.{append-nil, take_more}, List.Elements.filter-append, Bool.Decides.nat_tests}
-use Rattle.std.specs.FinMap as fin
 use Rattle.std.specs.{List.{list_any, filter_map, cons_option, AllByRecursion, find}, Ordering.{nat_cmp, eq_by_cmp}}
 use Rattle.std.specs.{Cmp.Lexicographic.{nat_list_cmp_total, pointwise, texts_ties}, Option.option_map}
 use Rattle.std.specs.FinMap.{nat_cmp-IsAntisymmetric, slice_cmp-IsAntisymmetric, same_map}
+use Rattle.std.specs.FinMap as fin
 use Rattle.tq_store.specs.declared.{write.Write.Write, copies.FileCopy.FileCopy}
 use Rattle.tq_store.specs.Copies.{Files, OnlyRises, name_cmp, copy_at, copy_of, copy_in, copies_after_install, installed_all, is_newer}
+use Rattle.tq_store.proofs.Installed.{arrives, at_name, get-installed, put_where, rises-installed, rises_then}
 use Rattle.tq_intents.specs.Kept.{IsIndex, ends_vote, write_of, lock_of, opened_vote, open_votes, kept_votes, kept_copies, with_copy, with_record, vote_records, KeepsNewest, copy_to, greatest_version, newest, newer_first}
 use Rattle.tq_intents.specs.declared.record.{OpenVote.OpenVote, Record.Record, KeptLock.KeptLock}
 use Rattle.tq_intents.specs.declared.record.Record.TheVariants.{Copy, Intent, Keep, Prepared, Gone}
-use Rattle.tq_store.proofs.Installed.{arrives, at_name, get-installed, put_where, rises-installed, rises_then}
 
 pub push_none : {X Y : Type 0} (f : X → Option Y) (xs : List X) (x : X) → f x ≡ None → filter_map f (xs ++ x ∷ []) ≡ filter_map f xs
 push_none f [] x e = ap (λ o. cons_option o []) e

@@ -3,15 +3,15 @@
 use Rattle.std.proofs.Common.{◌<◌, ◌≤◌, ◌+◌, ℕ, List, [], ◌∷◌, ◌++◌, map, arith, ◌≡◌, Bool, true, false, cond, Option, Some, None, refl, sym, ap, subst, ◌∙◌, inl, inr, length, get_or, take, drop}
 use Rattle.std.proofs.lemmas.{Bool.{cond-false, false≢true, and_right, eqb-true, ne_eqb}, List.{take_more, append-nil}}
 use Rattle.std.proofs.{lemmas.List.Elements.filter_map-append, Math.Seq.drop-cons}
+use Rattle.std.specs.{Prelude.{◌==◌, ◌&&◌, ◌||◌}, List.{list_any, filter_map, cons_option}, BTreeMap.is_at, FinMap.find}
+use Rattle.std.specs.{Map.lookup, Ordering.nat_cmp}
 use Rattle.tq_store.specs.declared.write.Write.{Write}
 use Rattle.tq_intents.specs.Kept.{IsAbove, IsBelow, vote_records, Votes, IsUnfinished, is_dead, AreDead, ends_vote, write_of, lock_of, vote_of, opened_vote, open_votes, kept_votes, kept_copies, IsIndex}
 use Rattle.tq_intents.specs.declared.record.{KeptLock.KeptLock, Record.Record, OpenVote.OpenVote}
 use Rattle.tq_intents.specs.declared.record.Record.TheVariants.{Copy, Intent, Keep, Prepared, Gone}
-use Rattle.std.specs.{Prelude.{◌==◌, ◌&&◌, ◌||◌}, List.{list_any, filter_map, cons_option}, BTreeMap.is_at, FinMap.find}
-use Rattle.std.specs.{Map.lookup, Ordering.nat_cmp}
+use Rattle.tq_intents.proofs.{CopiesPush.AreOneEach, Votes.swap_test}
 use Rattle.std.specs.FinMap as fin
 use Rattle.tq_shape.specs.Journal.{Has}
-use Rattle.tq_intents.proofs.{CopiesPush.AreOneEach, Votes.swap_test}
 use Prim.Native.Nat.{suc}
 
 pub above_append : (n : ℕ) (xs ys : List Record) → IsAbove n xs → IsAbove n ys → IsAbove n (xs ++ ys)

@@ -1,14 +1,14 @@
 -- Lists that others share: what stands at a place, and what is put behind the others. The locks that a list of records
 -- keeps, at a file and a transaction.
 use Rattle.std.proofs.Common.{◌≡◌, ◌<◌, ℕ, List, [], ◌∷◌, ◌++◌, zero, suc, length, length-append, get_or, refl, sym, ap, subst, ◌∙◌, arith, ◌==◌, Bool, true, false, cond, ◌&&◌, map, Option, Some, None}
-use Rattle.tq_asks.specs.declared.ask.HeldLock.{HeldLock}
-use Rattle.tq_intents.specs.{declared.record.KeptLock.KeptLock, Sharing.{lock_of_vote, kept_each, lock_at}}
-use Rattle.tq_intents.specs.Kept.{Votes, HasOneVoteEach, as_lock, stable_lock, lock_in, lock_of_votes, open_votes, kept_votes, kept_locks}
-use Rattle.tq_intents.specs.declared.record.{OpenVote.OpenVote, Record.Record}
 use Rattle.std.specs.{Cmp.{nat_cmp_total, unsigned_tied}, Cmp.Lexicographic.{pointwise, texts_ties}}
 use Rattle.std.specs.{List.{AllByRecursion, find, flat_map}, Option.{option_and_then, option_map}}
 use Rattle.std.specs.{Ordering.{nat_cmp, is_eq, eq_by_cmp, ordering_then}, declared.cmp.Ordering.Ordering}
 use Rattle.std.specs.declared.cmp.Ordering.TheVariants.{Less, Equal, Greater}
+use Rattle.tq_asks.specs.declared.ask.HeldLock.{HeldLock}
+use Rattle.tq_intents.specs.{declared.record.KeptLock.KeptLock, Sharing.{lock_of_vote, kept_each, lock_at}}
+use Rattle.tq_intents.specs.Kept.{Votes, HasOneVoteEach, as_lock, stable_lock, lock_in, lock_of_votes, open_votes, kept_votes, kept_locks}
+use Rattle.tq_intents.specs.declared.record.{OpenVote.OpenVote, Record.Record}
 use Rattle.std.specs.FinMap as fin
 use Rattle.tq_shape.proofs.Options.{is_eq-Equal}
 use Rattle.tq_store.specs.Copies.{name_cmp}

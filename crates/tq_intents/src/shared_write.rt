@@ -141,7 +141,7 @@ fn refresh_parts(ask: &WorkAsk) -> (FileName, u64, &Content)
             version,
             content,
             ..
-        } => (*file, *version, content),
+        } => (*file.get(), *version, content.get()),
         _ => unreachable!(),
     }
 }

@@ -1,9 +1,8 @@
 -- Jobs one after another, and what each asks. What a recorder notes of a step: it is told last, and all that was told
 -- leads to the journals after the step.
 use Rattle.std.specs.{Int.from_bool, Prelude.{nat_le, if◌then◌else◌, OnOk, OnErr}, List.{All, Contains, flat_map}}
-use Rattle.std.specs.Option.{option_map, unwrap_or}
+use Rattle.std.{specs.Option.{option_map, unwrap_or}, proofs.lemmas.{Bool.eqb-true, List.length-append}}
 use Rattle.std.proofs.Common.{◌≡◌, ◌∙◌, ◌+◌, ◌≤◌, ℕ, Bool, true, cond, List, [], ◌∷◌, ◌++◌, length, append_assoc, None, Err, false, refl, sym, ap, subst, arith, suc, Option, Some, Result, Ok, append-nil, inl, inr, ◌==◌}
-use Rattle.std.proofs.lemmas.{Bool.eqb-true, List.length-append}
 use Rattle.std.proofs.lemmas.List.Elements.{All-nil, All-cons, All-head, All-tail, All-push, All-weaker, All-contains}
 use Rattle.tq_tables.specs.Journals.{JournalsView}
 use Rattle.tq_core.specs.declared.answer.Step.TheVariants as steps
@@ -11,17 +10,20 @@ use Rattle.tq_core.specs.Steps.{world_after, IsTold, told_at, refuse_unfounded, 
 use Rattle.tq_core.specs.declared.answer.{Answer.Answer, Refusal.Refusal, Step.Step}
 use Rattle.tq_core.specs.{declared.citation.Citation.Citation, Founded.{unfounded_in_node_ask, unfounded_in_desk_ask}}
 use Rattle.tq_core.specs.{World.{item_at, server_entry}, Service.{refusal_of, told_by as told_step}}
+use Rattle.tq_core.proofs.Contents.{granted-founded, voted-founded, commit-founded, verdict-founded}
+use Rattle.tq_core.proofs.Journaled.{desk_new, desk_stays, entry_new, entry_stays}
 use Rattle.tq_asks.specs.declared.ask.{NodeAsk.NodeAsk, NodeReply.NodeReply, Verdict.Verdict}
 use Rattle.tq_txn.specs.declared.asker.Exchange.TheVariants as exchanges
 use Rattle.tq_shape.specs.{declared.fault.AskFault.AskFault, Journal.{Has, entry, state_at}, declared.part.Part.Part}
+use Rattle.tq_shape.specs.declared.journaled.Answered.{Answered}
 use Rattle.tq_shape.specs.declared.fault.AskFault.TheVariants as faults
 use Rattle.tq_txn.specs.Dialogue.{Told, Dialogue, Ends, AsksNode, AsksDesk, AsksView, then_line, node_exchange, fault_of_ask, unless_memory}
 use Rattle.tq_txn.specs.{declared.asker.Exchange.Exchange, Told.{IsVerdictTold, answers_in}}
 use Rattle.tq_refresh.specs.{declared.job.Job.Job, Plan.{answer_in, mends_asked}}
 use Rattle.tq_interpreter.specs.Answer.{LeadsOn, Mended, nothing_mended, behind, so_far, jobs_asked, with_job, job_text, count_text, refresh_asked, refresh_jobs, refreshed_text}
 use Rattle.tq_interpreter.specs.Recorded.{Ran, run_line, node_told, desk_told, view_told, untaken_at, step_refusal, told_by, mark_of, RecorderView, StandsIn, IsReplayed, told_exchanges, step_of, Matches, Replays}
-use Rattle.tq_text.specs.Print.{printed_line, is_memory}
 use Rattle.tq_interpreter.proofs.ShellLines.{replays_on, then_ran, replays_push}
+use Rattle.tq_text.specs.Print.{printed_line, is_memory}
 use Rattle.tq_desk.specs.{declared.ask.DeskAsk.DeskAsk, DeskStep.cited_votes, DeskJournal.gives_verdict}
 use Rattle.tq_desk.specs.declared.ask.DeskReply.{DeskReply}
 use Rattle.tq_desk.specs.declared.ask.DeskAsk.TheVariants as desk_asks
@@ -35,8 +37,6 @@ use Rattle.tq_live.specs.declared.view.{ViewAsk.ViewAsk, ViewReply.ViewReply}
 use Rattle.tq_node.specs.NodeJournal.{NodeEntry}
 use Rattle.tq_core.specs.declared.answer.Refusal.TheVariants as refusals
 use Rattle.tq_core.specs.declared.answer.Reply.TheVariants as replies
-use Rattle.tq_core.proofs.Contents.{granted-founded, voted-founded, commit-founded, verdict-founded}
-use Rattle.tq_core.proofs.Journaled.{desk_new, desk_stays, entry_new, entry_stays}
 use Rattle.tq_shape.specs.declared.part.Part.TheVariants as parts
 
 pub node_answered : (server : ℕ) (ask : NodeAsk) (told : Told NodeReply) (old new : RecorderView) → IsReplayed old → IsReplayed new → new.journals.levels ≡ old.journals.levels → new.told ≡ old.told ++ exchanges.Node server ask told ∷ []
@@ -313,6 +313,16 @@ verdict_by_told world told ask stand is =
     let e = entry told_by.0 told_by.1 in
     let there = All-contains (StandsIn world) told (exchanges.Desk told_by.0 (Ok (record { number = ended.cite; reply = told_by.1 }))) stand told_by.3 in
     ap (unfounded_in_node_ask world) is.1 ∙ verdict-founded world ended.txn ended.verdict ended.cite e there (gives ended.txn ended.verdict told_by.0 told_by.1 told_by.2)
+
+-- what was told last stands
+all_last : (P : Exchange → Type 0) (told : List Exchange) (last : Exchange) → All P (told ++ last ∷ []) → P last
+all_last P [] last all = All-head P last [] all
+all_last P (h ∷ told) last all = all_last P told last (All-tail P h (told ++ last ∷ []) all)
+
+pub answer_stands : (server : ℕ) (ask : NodeAsk) (told : Answered NodeReply) (old new : RecorderView) → IsReplayed new → new.told ≡ old.told ++ exchanges.Node server ask (Ok told) ∷ []
+    → server_entry new.journals server told.number ≡ Some (entry ask told.reply)
+answer_stands server ask told old new replayed grew =
+    all_last (StandsIn new.journals) old.told (exchanges.Node server ask (Ok told)) (subst (λ (all : List Exchange). All (StandsIn new.journals) all) grew replayed.stands)
 
 -- where nothing was asked yet, nothing was told
 pub begun : (world : JournalsView) (told : List Exchange) → told ≡ mark_of world ∷ [] → IsReplayed (record { journals = world; told = told })

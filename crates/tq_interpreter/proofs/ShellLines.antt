@@ -2,6 +2,7 @@
 -- dialogue's is run so, and says this. A line of the shell whose asks are the dialogue's is answered so.
 use Rattle.std.proofs.Common.{◌≡◌, ◌∙◌, ◌-◌, ◌<◌, cond, nat_lt, arith, ℕ, true, List, [], ◌∷◌, ◌++◌, Some, None, append_assoc, append-nil, refl, sym, ap, subst, false, Option, Result, Ok, Err, ◌+◌, length, get_or, inl, inr}
 use Rattle.std.proofs.lemmas.{Option.slice_get_read, List.Elements.{All-nil, All-push, All-weaker}}
+use Rattle.std.specs.{Prelude.{slice_get, IfOk, slice_set}, Global.Vec}
 use Rattle.tq_tables.specs.Journals.{JournalsView}
 use Rattle.tq_core.specs.declared.answer.Step.TheVariants as steps
 use Rattle.tq_core.specs.{Steps.world_after, World.item_at}
@@ -14,7 +15,6 @@ use Rattle.tq_interpreter.specs.declared.{txn_slot.TxnSlot.TxnSlot, states.Close
 use Rattle.tq_interpreter.specs.TxnAsked.{TxnAnswer, IsAnswered, IsClosed, is_refused_memory, line_asked}
 use Rattle.tq_interpreter.specs.Answer.{World, Answer, answer, answer_of_run, IsWhole, LineAnswer, begin_end, begin_reply, of_txn, refresh_line, text_answer, refresh_asked}
 use Rattle.tq_interpreter.specs.Known.{with_kept, AreKept, IsKept, IsLater, Known, fresh, known_of}
-use Rattle.std.specs.{Prelude.{slice_get, IfOk, slice_set}, Global.Vec}
 use base.Stored.{Gv, gnil, gnum, gcons}
 use Rattle.tq_tables.specs.contracts.journals.Journals as journals_type
 use Rattle.tq_txn.specs.declared.fault.LineFault.TheVariants as faults

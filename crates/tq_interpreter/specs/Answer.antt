@@ -3,7 +3,7 @@
 -- transactions afterwards. All from what was known before. What the shell stands on, and what it answers to a line.
 use Rattle.std.specs.Prelude.{◌≡◌, ◌≤◌, ℕ, ◌+◌, Bool, true, false, cond, List, [], ◌∷◌, ◌++◌, length, codes, Option, Some, None, Result, Ok, Err, ◌⊎◌}
 use Rattle.std.specs.{Fmt.decimal, Global.Vec}
-use Rattle.tq_tables.specs.{Journals.JournalsView, Parts.view_at, Tables.tables_of}
+use Rattle.tq_tables.specs.{Journals.{JournalsView, no_entries}, Parts.view_at, Tables.tables_of}
 use Rattle.tq_refresh.specs.{Plan.{mends_asked, jobs_of_plan, plan_of}, declared.file_jobs.PlanByFile.PlanByFile}
 use Rattle.tq_refresh.specs.declared.job.Job.{Job}
 use Rattle.tq_board_text.specs.Board.{board_text}
@@ -22,7 +22,7 @@ use Rattle.tq_live.specs.declared.view.ViewAsk.TheVariants as view_asks
 use Rattle.tq_txn_states.specs.declared.told.DeskTold.{DeskTold}
 use Rattle.tq_syntax.specs.declared.line.Line.{Line}
 use Rattle.tq_syntax.specs.declared.line.Line.TheVariants as is
-use Rattle.tq_core.specs.World.{desk_at, empty_world}
+use Rattle.tq_core.specs.World.{desk_at}
 
 -- no more copies were mended than there were jobs, and no more jobs than bytes that are written
 abbrev pub IsCounted : Counts → Vec ℕ → Type 0
@@ -205,7 +205,7 @@ over journals = record { journals = journals; known = nothing_known journals.lev
 
 -- nothing was asked yet
 abbrev pub opening : ℕ → World
-opening levels = over (empty_world levels full_limits)
+opening levels = over (no_entries levels full_limits)
 
 -- what a line gives: the text that is written, the asks with what they were told, and the world after it
 pub record Answer : Type 0 where

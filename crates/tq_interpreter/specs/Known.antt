@@ -6,8 +6,7 @@ use Rattle.tq_txn.specs.{declared.txn.Txn.Txn, Told.{Grown, Knows, levels_of}}
 use Rattle.tq_txn.specs.declared.txn.Txn.TheVariants as states
 use Rattle.tq_txn_states.specs.Open as first
 use Rattle.tq_core.specs.World.{item_at}
-use Rattle.tq_interpreter.specs.{Recorded.RecorderView, declared.txn_slot.TxnSlot.TxnSlot}
-use Rattle.tq_interpreter.specs.declared.txn_slot.Ending.{Ending}
+use Rattle.tq_interpreter.specs.{Recorded.RecorderView, declared.txn_slot.{TxnSlot.TxnSlot, Ending.Ending}}
 
 -- the levels of the tree and the limits, how many transactions others had begun before, and those begun since, in the order of
 -- their begins: their numbers go on behind the others'

@@ -110,7 +110,7 @@ coded_numbers (gcons a b) = 2 ∷ (coded_numbers a ++ coded_numbers b)
 -- It stands before all that was told, and names the journals that the first ask found: so two recorders of which one was told
 -- what the other was, and more, began at the same journals. No ask is told so: those that met want of memory are not told.
 abbrev pub mark_of : JournalsView → Exchange
-mark_of start = exchanges.Node 0 (asks.Work (work.Lock 0 (coded_numbers (journals_type.the_row.coded.code start)) modes.Shared)) (Err Memory)
+mark_of start = exchanges.Node 0 (asks.Work (work.Lock modes.Shared 0 (coded_numbers (journals_type.the_row.coded.code start)))) (Err Memory)
 
 -- what a server or the desk answered stands in its journal, under its number
 abbrev pub StandsIn : JournalsView → Exchange → Type 0

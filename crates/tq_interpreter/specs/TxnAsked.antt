@@ -8,9 +8,8 @@ use Rattle.tq_desk.specs.declared.ask.DeskReply.{DeskReply}
 use Rattle.tq_desk.specs.declared.ask.DeskReply.TheVariants as desk_replies
 use Rattle.tq_live.specs.View.{is_server}
 use Rattle.tq_asks.specs.declared.ask.WorkAsk.TheVariants.{Decide}
-use Rattle.tq_txn.specs.declared.{fault.LineFault.LineFault, txn.ReadAnswer.ReadAnswer, txn.Applied.Applied}
-use Rattle.tq_txn.specs.{declared.txn.Txn.Txn, Dialogue.{LineEnd, Ends, then_line, desk_line}}
-use Rattle.tq_txn.specs.Commits.{decide_line, commit_line, abort_line}
+use Rattle.tq_txn.specs.declared.{fault.LineFault.LineFault, txn.{ReadAnswer.ReadAnswer, Applied.Applied, Txn.Txn}}
+use Rattle.tq_txn.specs.{Dialogue.{LineEnd, Ends, then_line, desk_line}, Commits.{decide_line, commit_line, abort_line}}
 use Rattle.tq_txn_states.specs.{declared.told.DeskTold.DeskTold, Ended.resolve_verdict}
 use Rattle.tq_txn_states.specs.{Open.{OpenView, op_read, op_written, close_fault}, declared.fault.TxnFault.TxnFault}
 use Rattle.tq_txn_states.specs.Voting.{VotingView, voting_of, has_vote}

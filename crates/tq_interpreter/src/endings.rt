@@ -10,7 +10,7 @@ use crate::txn_slot::{Ending, TxnSlot};
 use std::alloc::Global;
 use std::mem;
 use tq_desk::{DeskAsk, DeskReply};
-use tq_shape::Memory;
+use tq_shape::{Memory, Shared};
 use tq_text::{push_desk_refusal, say_fault, say_line, say_verdict};
 use tq_txn::{Abortion, Asker, LineFault, abort};
 
@@ -73,7 +73,7 @@ pub(crate) fn resolve(
     match answer {
         Ok(told) => {
             say_resolved(text, &told.reply)?;
-            keep_reply(kept, told.number, told.reply);
+            keep_reply(alloc, kept, told.number, told.reply)?;
             Ok(())
         }
         Err(fault) => {
@@ -100,11 +100,12 @@ fn say_resolved(text: &mut Vec<u8>, reply: &DeskReply) -> Result<(), Memory>
 }
 
 /// Keeps the verdict that the desk's answer tells.
-fn keep_reply(kept: &mut TxnSlot, cite: u64, reply: DeskReply)
-    ensures kept { kept.new ≡ spec.resolved_kept kept.old cite reply }
+fn keep_reply(alloc: Global, kept: &mut TxnSlot, cite: u64, reply: DeskReply) -> Result<(), Memory>
+    ensures kept { OnOk result (kept.new ≡ spec.resolved_kept kept.old cite reply) }
     ensures txn { kept.new.txn ≡ kept.old.txn }
 {
     if let DeskReply::Verdict(verdict) = reply {
-        kept.told = Some(Ending { verdict, cite });
+        kept.told = Some(Shared::new(alloc, Ending { verdict, cite })?);
     }
+    Ok(())
 }

@@ -1,13 +1,14 @@
 //! The lines of operators: the refresh and the board.
-ghost use Rattle.std.specs.Prelude.{◌≡◌, ◌≤◌, ◌+◌, ◌++◌, List, length, true, false, IfOk, OnOk, OnErr, string_bytes};
+ghost use Rattle.std.specs.Prelude.{◌≡◌, ◌≤◌, ◌+◌, ◌++◌, List, None, Some, length, true, false, IfOk, IfSome, OnOk, OnErr, string_bytes};
 ghost use Rattle.std.specs.{Fmt.decimal, Option.option_map};
-ghost use Rattle.tq_core.specs.Steps.{world_after};
+ghost use Rattle.tq_core.specs.{Founded.unfounded_in_node_ask, Steps.world_after, World.server_entry};
 ghost use Rattle.tq_core.specs.declared.answer.Step.TheVariants as steps;
 ghost use Rattle.tq_refresh.specs.Plan.{answer_in, is_refreshed, mends_asked, ArePlanned, IsPlanned, jobs_in, jobs_of_plan, peek_of};
 ghost use Rattle.tq_refresh.specs.declared.job.Job.{Job};
 ghost use Rattle.tq_txn.specs.Dialogue.{fault_of_ask};
 ghost use Rattle.tq_interpreter.specs.{Known.IsLater, Recorded.{node_told, run_line}};
 ghost use Rattle.tq_interpreter.specs.Answer as spec;
+ghost use Rattle.tq_shape.specs.Journal.{entry};
 ghost use Rattle.tq_text.specs.Print.{Extends, printed_line, Appends, Prints, is_memory};
 
 use crate::recorder::{Recorder, copy_of_node_ask};
@@ -16,8 +17,8 @@ use tq_asks::{NodeAsk, NodeReply};
 use tq_board_text::render;
 use tq_core::Service;
 use tq_refresh::{FileJobs, Job, PlanByFile, copy_ask_of, plan_by_file};
-use tq_shape::{Answered, AskFault, Memory, ServerId, ServerSet};
-use tq_store::FileName;
+use tq_shape::{Answered, AskFault, Memory, ServerId, ServerSet, Shared};
+use tq_store::{Content, FileName};
 use tq_text::{push_at, say_number};
 
 /// How many jobs there were, and how many of them mended a copy.
@@ -102,19 +103,32 @@ fn mend_all(
     ensures kept { Extends text.old.items text.new.items }
 {
     let mut counts = Counts { jobs: 0, mended: 0 };
+    let mut said = MendedText {
+        front: Vec::new(alloc),
+        back: Vec::new(alloc),
+    };
     for of_file in plan.files.as_slice() {
-        mend_file(recorder, alloc, of_file, &plan.up, text, &mut counts)?;
+        mend_file(
+            recorder,
+            alloc,
+            of_file,
+            &plan.up,
+            &mut said,
+            text,
+            &mut counts,
+        )?;
     }
     Ok(counts)
 }
 
 /// Does the jobs of one file, where `up` is the set of the servers that are marked up as the refresh begins, and counts
-/// them. Whatever jobs are behind them lead on from there.
+/// them. Whatever jobs are behind them lead on from there. `said` is room for what is said of each.
 fn mend_file(
     recorder: &mut Recorder,
     alloc: Global,
     of_file: &FileJobs,
     up: &ServerSet,
+    said: &mut MendedText,
     text: &mut Vec<u8>,
     counts: &mut Counts,
 ) -> Result<(), Memory>
@@ -132,7 +146,9 @@ fn mend_file(
     ensures kept { Extends text.old.items text.new.items }
 {
     let peek = of_file.peek_ask(alloc)?;
-    let said = mended_text(alloc, &of_file.file, of_file.source)?;
+    set_mended_text(said, &of_file.file, of_file.source)?;
+    let file = Shared::new(alloc, of_file.file)?;
+    let mut seen = None;
     for server in of_file.stale.iter() {
         if up.contains(server) {
             let job = Job {
@@ -141,8 +157,8 @@ fn mend_file(
                 source: of_file.source,
             };
             let ask = copy_of_node_ask(&peek)?;
-            let refreshed = mend(recorder, alloc, &job, ask)?;
-            say_job(text, &said, &job, refreshed)?;
+            let refreshed = mend(recorder, alloc, &job, ask, &file, &mut seen)?;
+            say_job(text, said, &job, refreshed)?;
             // Each job left a line, so that there are no more of them than bytes of text.
             counts.jobs += 1;
             counts.mended += usize::from(refreshed);
@@ -151,10 +167,18 @@ fn mend_file(
     Ok(())
 }
 
-/// Whether the job mended its copy: its source told one, and the server took it.
-fn mend(recorder: &mut Recorder, alloc: Global, job: &Job, peek: NodeAsk) -> Result<bool, Memory>
+/// Whether the job mended its copy: its source told one, and the server took it. `seen` is the content that was offered last.
+fn mend(
+    recorder: &mut Recorder,
+    alloc: Global,
+    job: &Job,
+    peek: NodeAsk,
+    file: &Shared<FileName>,
+    seen: &mut Option<Shared<Content>>,
+) -> Result<bool, Memory>
     requires of_tree { spec.IsOfTree recorder.old.journals.levels job.now }
     requires peek { peek ≡ peek_of job.now.file }
+    requires file { file.now ≡ job.now.file }
     ensures value { IfOk result (λ refreshed.
         refreshed ≡ (run_line recorder.old.journals (mends_asked job.now)).end) }
     ensures after { OnOk result
@@ -164,7 +188,7 @@ fn mend(recorder: &mut Recorder, alloc: Global, job: &Job, peek: NodeAsk) -> Res
     let Some(told) = answer_of(recorder, alloc, job.source, peek)? else {
         return Ok(false);
     };
-    let Some(ask) = copy_ask_of(alloc, job, told.number, told.reply)? else {
+    let Some(ask) = copy_ask_of(alloc, job, told.number, told.reply, file, seen)? else {
         return Ok(false);
     };
     match answer_of(recorder, alloc, job.server, ask)? {
@@ -173,7 +197,7 @@ fn mend(recorder: &mut Recorder, alloc: Global, job: &Job, peek: NodeAsk) -> Res
     }
 }
 
-/// What a server answers to an ask; none where the ask was not taken.
+/// What a server answers to an ask that is known to be founded; none where the ask was not taken.
 #[inline(always)]
 fn answer_of(
     recorder: &mut Recorder,
@@ -181,10 +205,13 @@ fn answer_of(
     server: ServerId,
     ask: NodeAsk,
 ) -> Result<Option<Answered<NodeReply>>, Memory>
-    requires { server.levels ≡ recorder.old.journals.levels }
+    requires of_tree { server.levels ≡ recorder.old.journals.levels }
+    requires founded { unfounded_in_node_ask recorder.old.journals ask ≡ None }
     ensures answer { IfOk result (λ told.
         option_map (λ t. (t.number, t.reply)) told
         ≡ answer_in (node_told recorder.old.journals server.number ask)) }
+    ensures stands { IfOk result (λ told. IfSome told (λ t.
+        server_entry recorder.new.journals server.number t.number ≡ Some (entry ask t.reply))) }
     ensures after { OnOk result (recorder.new.journals
         ≡ world_after recorder.old.journals (steps.Node server.number ask)) }
     ensures later { IsLater recorder.old recorder.new }
@@ -237,17 +264,18 @@ fn say_job(text: &mut Vec<u8>, said: &MendedText, job: &Job, refreshed: bool) ->
     Ok(())
 }
 
-/// What is said of each server at which a copy of the file was mended from the source.
-fn mended_text(alloc: Global, file: &FileName, source: ServerId) -> Result<MendedText, Memory>
-    ensures front { IfOk result (λ said. said.front.items ≡ spec.mended_front file.now) }
-    ensures back { IfOk result (λ said. said.back.items ≡ spec.mended_back source.number) }
+/// Sets what is said of each server at which a copy of the file was mended from the source. Room that it has is used again.
+fn set_mended_text(said: &mut MendedText, file: &FileName, source: ServerId) -> Result<(), Memory>
+    ensures front { OnOk result (said.new.front.items ≡ spec.mended_front file.now) }
+    ensures back { OnOk result (said.new.back.items ≡ spec.mended_back source.number) }
 {
-    let mut front = Vec::from_slice(alloc, b"refreshed ")?;
-    front.extend_from_slice(file.as_bytes())?;
-    front.extend_from_slice(b" at ")?;
-    let mut back = Vec::new(alloc);
-    say_number(&mut back, b" from ", source.number())?;
-    Ok(MendedText { front, back })
+    said.front.clear();
+    said.front.extend_from_slice(b"refreshed ")?;
+    said.front.extend_from_slice(file.as_bytes())?;
+    said.front.extend_from_slice(b" at ")?;
+    said.back.clear();
+    say_number(&mut said.back, b" from ", source.number())?;
+    Ok(())
 }
 
 fn say_mended(text: &mut Vec<u8>, said: &MendedText, server: ServerId) -> Result<(), Memory>

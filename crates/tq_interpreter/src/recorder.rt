@@ -34,15 +34,16 @@ impl Model for Recorder {
 }
 
 impl Recorder {
-    ghost use Rattle.std.specs.Prelude.{◌≡◌, ◌++◌, [], IfOk};
-    ghost use Rattle.tq_core.specs.World.{empty_world};
+    ghost use Rattle.std.specs.Prelude.{◌≡◌, ◌++◌, [], None, IfOk};
+    ghost use Rattle.tq_core.specs.Founded.{unfounded_in_node_ask};
+    ghost use Rattle.tq_tables.specs.Journals.{no_entries};
     ghost use Rattle.tq_txn.specs.Dialogue.{node_exchange};
     ghost use Rattle.tq_interpreter.specs.Recorded.{full_limits, told_exchanges, IsReplayed};
     ghost use Rattle.tq_txn.specs.declared.asker.Exchange.TheVariants as exchanges;
 
     /// A service with full limits that was asked nothing.
     pub(crate) fn new(alloc: Global, levels: Levels) -> Result<Recorder, Memory>
-        ensures { IfOk result (λ recorder. recorder.journals ≡ empty_world levels full_limits) }
+        ensures { IfOk result (λ recorder. recorder.journals ≡ no_entries levels full_limits) }
     {
         let service = Service::new(alloc, levels, Limits::full())?;
         Ok(Recorder::over(service))
@@ -63,21 +64,22 @@ impl Recorder {
         &self.service
     }
 
-    /// Asks the server, as the asker's `node` does, and keeps no copy of the ask: the entry's number and the reply are told.
+    /// Asks the server what is known to be founded, and keeps no copy of the ask: the entry's number and the reply are told.
     pub(crate) fn put(
         &mut self,
         alloc: Global,
         server: ServerId,
         ask: NodeAsk,
     ) -> Result<Answered<NodeReply>, AskFault>
-        requires { server.levels ≡ self.old.journals.levels }
+        requires of_tree { server.levels ≡ self.old.journals.levels }
+        requires founded { unfounded_in_node_ask self.old.journals ask ≡ None }
         ensures exchanges { self.new.told
             ≡ self.old.told ++ told_exchanges result (exchanges.Node server.number ask result) }
         ensures tree { self.new.journals.levels ≡ self.old.journals.levels }
     {
         let number = server.number();
         let given = handed_ask(&ask);
-        let answer = self.service.ask_node::<ByRules>(alloc, server, ask);
+        let answer = self.service.ask_node::<ByProof>(alloc, server, ask);
         self.told = with_handed(&self.told, number, &given, &answer);
         answer
     }

@@ -73,7 +73,10 @@ pub(crate) fn ending_of(kept: &TxnSlot) -> Result<Option<Ending>, Memory>
     match &kept.txn {
         Txn::Ended(ended) => Ok(Some(cited_ending(ended.verdict(), ended.cite())?)),
         _ => match &kept.told {
-            Some(ending) => Ok(Some(cited_ending(&ending.verdict, ending.cite)?)),
+            Some(told) => {
+                let ending = told.get();
+                Ok(Some(cited_ending(&ending.verdict, ending.cite)?))
+            }
             None => Ok(None),
         },
     }

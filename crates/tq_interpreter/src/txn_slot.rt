@@ -1,6 +1,7 @@
 //! What is kept of a transaction.
 
 use tq_asks::Verdict;
+use tq_shape::Shared;
 use tq_txn::Txn;
 
 /// How a transaction ended, and the number of the desk's entry that told it.
@@ -14,5 +15,5 @@ pub struct Ending {
 #[derive(Drop)]
 pub struct TxnSlot {
     pub txn: Txn,
-    pub told: Option<Ending>,
+    pub told: Option<Shared<Ending>>,
 }

@@ -5,12 +5,11 @@ use Rattle.std.specs.Prelude.{⊤, IsTrue}
 use Rattle.json.specs.Token.{Token, begin_object, end_object, begin_array, end_array, key, string, number, boolean, null, bad}
 use Rattle.json.specs.{Text.{content, plain}, Align.is_blank, Json.after_end_array}
 use Rattle.json.specs.Word.{is_operator, is_space, head, ends_word, after_number, number_before, word}
-use Rattle.json.specs.Lex.{Lexeme, token, comma, colon, Class, quote, backslash, operator, space, other, class, operator_lexeme, string_token, between, lex}
-use Rattle.json.specs.Lex.{Place, fresh, after_value, after_comma, after_key, begins_colon, may_begin, may_close, if_allowed, place_token, punctuate}
+use Rattle.json.specs.Lex.{Lexeme, token, comma, colon, Class, quote, backslash, operator, space, other, class, operator_lexeme, string_token, between, lex, Place, fresh, after_value, after_comma, after_key, begins_colon, may_begin, may_close, if_allowed, place_token, punctuate}
 use Rattle.tq_json.specs.Plain.{IsAtLexeme, IsQuoted, IsCounted, tokens_at, tokens_of, closes_at, begins_at, goes_at, NotBeforeComma}
 use Rattle.tq_json.specs.declared.reader.Place.TheVariants.{Fresh, AfterValue, AfterComma, Failed}
-use Rattle.tq_json.specs.declared.reader.Place as reader
 use Rattle.tq_json.proofs.Lexemes.{lex_first, lex-nil, six}
+use Rattle.tq_json.specs.declared.reader.Place as reader
 
 abbrev pub rest : List ℕ → List Lexeme
 rest t = drop 1 (lex between t)

@@ -3,16 +3,16 @@
 -- what is open, value by value, with the kinds of all that are open in the bits of a number.
 use Rattle.std.proofs.Common.{◌≡◌, List, [], ◌++◌, Option, Some, None, refl, ℕ, zero, suc, ◌-◌, ◌<◌, ◌≤◌, length, option_map, option_and_then, ap, ◌∙◌, ◌∷◌, sym, arith, Bool, Result, Ok, Err, true, false, subst, rules, ◌+◌, ◌*◌, ◌/◌, ◌%◌, ◌^◌, ◌==◌, not, cond}
 use Rattle.std.proofs.{lemmas.Bool.{false≢true, true≢false}, lemmas.Simd.mask_l-lt, Math.Nat.pow-le-pow_right}
+use Rattle.std.specs.{Option.{option_and_then, is_some, option_map}, Prelude.{⊤, IfOk}, Borrow.Bor, Bool.MatchBool}
 use Rattle.json.specs.{Token.Token, Reads.token_of}
 use Rattle.json.specs.Json.{Parse, parse_map, after_end_array, read_key, items_step, items, members, if_last, members_step, value}
+use Rattle.json.proofs.Grammar.{items_more, members_no_key, members_more, left, read_key-shorter, skip_value-shorter, items_fail, left_some, value_is, value-begin_array, value-begin_object, left-parse_map}
 use Rattle.json.specs.Json as json
 use Rattle.json.proofs.Grammar as grammar
-use Rattle.json.proofs.Grammar.{items_more, members_no_key, members_more, left, read_key-shorter, skip_value-shorter, items_fail, left_some, value_is, value-begin_array, value-begin_object, left-parse_map}
 use Rattle.serde_json.specs.Data.{Data, array, object, no_items, item, Members, no_members, put, Num, null, boolean, number, string, Items}
 use Rattle.serde_json.specs.Read.{of_json, of_items, of_members, converted, number_of}
 use Rattle.serde_json.specs.Find.{as_str, as_bool, as_number, as_u64, as_array}
-use Rattle.std.specs.{Option.{option_and_then, is_some, option_map}, Prelude.{⊤, IfOk}, Borrow.Bor, Bool.MatchBool}
-use Rattle.tq_json.specs.Next.{next, next_items, next_members, Found, HasNoNames, behind, tokens_behind, tokens_behind_next, Begins, Ends, GoesOn, Fails}
+use Rattle.tq_json.specs.Next.{members_behind, next, next_items, next_members, Found, HasNoNames, behind, tokens_behind, tokens_behind_next, Begins, Ends, GoesOn, Fails}
 use Rattle.json.specs.declared.token.Token as read
 use Rattle.json.specs.declared.token.Token.TheVariants as kinds
 use lib.Lanes.{mask_l}
@@ -197,9 +197,6 @@ pub items_end : (depth : ℕ) (ts r : List Token) → after_end_array ts ≡ Som
 items_end depth ts r e = items_over (value depth) (length ts) ts r (omega arith) e
 
 -- ---- members, behind those that were found
-
-abbrev pub members_behind : Members → ℕ → List Token → Option (Members × List Token)
-members_behind old depth ts = converted (λ ms. of_members ms old) (members (value depth) (length ts) ts)
 
 pub members_go : (old : Members) (depth : ℕ) (k : List ℕ) (ts s r : List Token) (d : Data) → read_key ts ≡ Some (Some k, s) → next depth s ≡ Some (d, r) → members_behind old depth ts ≡ members_behind (put k d old) depth r
 members_go old depth k ts s r d key e =

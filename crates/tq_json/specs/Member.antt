@@ -1,12 +1,12 @@
 -- What depends on the format of a file: the rest of the form is the same in both. What stands in an object of the form
 -- at a name. Names of files, and contents as hexadecimal text.
-use Rattle.std.specs.Prelude.{ℕ, ◌==◌, Option, Some, None, cond, Bool, List, [], ◌∷◌, ◌&&◌, length, nat_le, Result, Ok, Err}
-use Rattle.std.specs.{Option.option_and_then, List.list_all}
+use Rattle.std.specs.Prelude.{ℕ, ◌==◌, Option, Some, None, cond, Bool, List, [], ◌∷◌, length, nat_le, Result, Ok, Err}
+use Rattle.std.specs.Option.{option_and_then}
 use Rattle.tq_json.specs.declared.format.{Format.Format, Format.TheVariants.{One, Two}}
 use Rattle.serde_json.specs.Data.{Data, Items, no_items, item}
 use Rattle.serde_json.specs.Find.{get, as_str, as_number, as_u64, as_bool, as_array}
 use Rattle.hex.specs.Hex.{decode_of}
-use Rattle.tq_store.specs.Names.{is_name_byte, starts_with_letter}
+use Rattle.tq_store.specs.Names.{is_file_name}
 
 abbrev pub format_number : Format → ℕ
 format_number One = 1
@@ -60,13 +60,9 @@ each form (item value values) = do
 
 -- ---- content
 
--- 1 to 32 bytes of `a-z 0-9 . _ -`, a letter first
-abbrev pub is_name : List ℕ → Bool
-is_name text = starts_with_letter text && list_all is_name_byte text && nat_le (length text) 32
-
 -- the name of a file that a text is
 abbrev pub name_of : List ℕ → Option (List ℕ)
-name_of text = cond (is_name text) (Some text) None
+name_of text = cond (is_file_name text) (Some text) None
 
 abbrev pub file_at : List ℕ → Data → Option (List ℕ)
 file_at name value = do

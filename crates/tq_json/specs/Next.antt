@@ -20,6 +20,10 @@ next_items depth ts = converted of_items (items (value depth) (length ts) ts)
 abbrev pub next_members : ℕ → List Token → Option (Members × List Token)
 next_members depth ts = converted (λ ms. of_members ms no_members) (members (value depth) (length ts) ts)
 
+-- the members behind those that were found
+abbrev pub members_behind : Members → ℕ → List Token → Option (Members × List Token)
+members_behind found depth ts = converted (λ ms. of_members ms found) (members (value depth) (length ts) ts)
+
 -- of what stood first, which is gone now, the relation holds
 abbrev pub Found : {X D : Type 0} → (D → X → Type 0) → Option (D × List Token) → List Token → X → Type 0
 Found {D = D} P first rest x = (d : D) × (first ≡ Some (d, rest)) × P d x

@@ -1,8 +1,7 @@
 -- What is read is what the types hold. Lists within a limit, and of as many values as servers.
-use Rattle.std.specs.{Prelude.⊤, List.All, Str.bytes_eq}
+use Rattle.std.{specs.{Prelude.⊤, List.All, Str.bytes_eq}, proofs.lemmas.List.Elements.{All-nil, All-cons}}
 use Rattle.std.proofs.Common.{◌≡◌, nat_lt, suc, ◌+◌, ◌^◌, ◌==◌, ◌≤◌, ℕ, Bool, true, false, cond, codes, List, ◌∷◌, length, Option, Some, None, refl, sym, ap, subst, ◌∙◌, nat_le, arith}
 use Rattle.std.proofs.lemmas.Bool.{eqb-true, ltb-false, lt-leb, le-leb, ltb-true, eq-eqb, false≢true}
-use Rattle.std.proofs.lemmas.List.Elements.{All-nil, All-cons}
 use Rattle.serde_json.specs.{Data.{Data, Items, no_items, item}, Find.{get, as_array}}
 use Rattle.tq_shape.specs.Limits.{LimitsView}
 use Rattle.tq_coterie.specs.Coterie.{ServerList, is_quorum}

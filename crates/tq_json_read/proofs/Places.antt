@@ -5,16 +5,15 @@
 use Rattle.std.proofs.Common.{◌≡◌, ℕ, List, Option, Some, None, refl, sym, ap, ◌∙◌, Bool, true, false, cond, ◌-◌, ◌<◌, ◌≤◌, zero, suc, ◌||◌, ◌+◌, [], ◌∷◌, length, get_or, drop, arith, ◌^◌, ◌==◌, nat_lt, codes, ◌≢◌, subst}
 use Rattle.std.proofs.lemmas.Bool.{false≢true, and_parts, or_parts, not-true, false_from_ne_true, le-leb, leb-false}
 use Rattle.std.proofs.lemmas.{Map.Views.{list_any-from_Contains, Contains-from_any}, List.{drop_more, drop_all}}
-use Rattle.std.proofs.lemmas.{Slice.Eq.bytes_eq-Decides, List.Elements.All-contains, Nat.pow_pos}
-use Rattle.std.proofs.Math.Pow.{pow_mono}
-use Rattle.serde_json.specs.{Data.{Data, Members, put}, Find.get_member}
-use Rattle.tq_json_read.specs.{Frame.IsAlone, Views.member_of}
-use Rattle.tq_json_read.specs.Slots.{Names, with, Slots, slots_at, with_slot, texts, IsNameAt, is_among, are_distinct, within_cap, members_behind, HasNone, SameBut, IsNameTaken, IsTakenInOrder}
+use Rattle.std.proofs.{lemmas.{Slice.Eq.bytes_eq-Decides, List.Elements.All-contains, Nat.pow_pos}, Math.Pow.pow_mono}
 use Rattle.std.specs.{Option.SomeIff, List.{Contains, All}, Cmp.Lexicographic.{nat_list_eq_equiv, same_text}}
 use Rattle.std.specs.{Prelude.{◌&&◌, nat_le, IfOk, MatchOption, Result, Ok, Err, ◌||◌}, Borrow.Bor, Str.bytes_eq}
+use Rattle.serde_json.specs.{Data.{Data, Members, put}, Find.get_member}
+use Rattle.tq_json_read.specs.{Frame.IsAlone, Views.member_of}
+use Rattle.tq_json_read.specs.Slots.{Names, with, Slots, slots_at, with_slot, texts, IsNameAt, is_among, are_distinct, within_cap, HasNone, SameBut, IsNameTaken, IsTakenInOrder}
+use Rattle.tq_json.specs.{Next.{members_behind, Found, next}, Member.◌>>=◌}
 use Rattle.tq_coterie.specs.Coterie.{ServerList, coterie, is_quorum, union_of, members, with_server}
 use Rattle.json.specs.{Token.Token, Json.read_key}
-use Rattle.tq_json.specs.{Next.{Found, next}, Member.◌>>=◌}
 use native.Mathlib.Nat.{two-pow-succ}
 use Rattle.tq_live.specs.declared.view.ViewReply.TheVariants.{CostSet, Marked, Chosen, Refused}
 use Rattle.tq_live.specs.declared.view.ViewRefusal.TheVariants.{NoSuchServer, BadCost, Blocked}

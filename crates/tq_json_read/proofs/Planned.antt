@@ -11,10 +11,9 @@ use Rattle.tq_shape.specs.Limits.{LimitsView}
 use Rattle.tq_node.specs.NodeJournal.{NodeEntry}
 use Rattle.tq_desk.specs.DeskJournal.{DeskEntry}
 use Rattle.tq_tables.specs.Journals.{JournalsView, ViewEntry, AreJournals}
-use Rattle.tq_json_read.specs.declared.{entry.Plan.Plan, file.FileFields.FileFields}
+use Rattle.tq_json_read.{specs.declared.{entry.Plan.Plan, file.FileFields.FileFields}, proofs.Held.read-are-journals}
 use Rattle.tq_json_read.specs.Frame.{levels_at, limits_at, servers_at, desk_at, view_at, journals_in, journals_by, journals_of, plan_of, IsInFormat, AreBothRead}
 use Rattle.tq_json_read.specs.Slots.{names_of, file_fields, journals_from, IsPlanned}
-use Rattle.tq_json_read.proofs.Held.{read-are-journals}
 
 bound : {A B : Type 0} (o : Option A) (f : A → Option B) (b : B) → (o >>= f) ≡ Some b → (a : A) × (o ≡ Some a) × (f a ≡ Some b)
 bound None f b e = absurd (cc)

@@ -5,8 +5,7 @@ use Rattle.std.specs.{Prelude.{◌↔◌, IsTrue, MatchOption}, Str.bytes_eq}
 use Rattle.json.specs.{Token.Token, Json.parse_map}
 use Rattle.serde_json.specs.{Data.{Data, Items, no_items, item, Members, put}, Find.get_member}
 use Rattle.serde_json.proofs.Views.{get_member-put, get_member-put_other}
-use Rattle.tq_json.specs.{Next.HasNoNames, Member.{◌>>=◌, each}}
-use Rattle.tq_json.proofs.Nexts.{with_front, no_front}
+use Rattle.tq_json.{specs.{Next.HasNoNames, Member.{◌>>=◌, each}}, proofs.Nexts.{with_front, no_front}}
 use Rattle.tq_json_read.specs.Slots.{names_of, with, within_cap}
 
 -- ---- items

@@ -10,10 +10,9 @@ use Rattle.tq_json.specs.declared.format.Format.{Format}
 use Rattle.tq_json.specs.Member.{file_at, content_at, ◌>>=◌, text_at, number_at, items_at, each}
 use Rattle.tq_json_read.specs.Locking.{mode_at, held_at, writes_at, verdict_at}
 use Rattle.tq_asks.specs.declared.ask.Verdict as asks
-use Rattle.tq_desk.specs.declared.ask.{DeskAsk.DeskAsk, DeskAsk.TheVariants.{Begin, Commit, Resolve}}
-use Rattle.tq_desk.specs.declared.ask.{DeskRefusal.DeskRefusal, DeskReply.DeskReply}
+use Rattle.tq_desk.specs.declared.ask.{DeskAsk.{DeskAsk, TheVariants.{Begin, Commit, Resolve}}, DeskRefusal.DeskRefusal}
+use Rattle.tq_desk.specs.declared.ask.DeskReply.{DeskReply, TheVariants.{Txn, Verdict, Committed, Refused}}
 use Rattle.tq_desk.specs.declared.ask.DeskRefusal.TheVariants.{NoSuchTxn, Decided, TooManyOps, BadEvidence, TooManyFiles}
-use Rattle.tq_desk.specs.declared.ask.DeskReply.TheVariants.{Txn, Verdict, Committed, Refused}
 
 abbrev pub grant_from : Option (List ℕ) → Option Mode → Option ℕ → Option ℕ → Option ℕ → Option Grant
 grant_from content mode number server version = do

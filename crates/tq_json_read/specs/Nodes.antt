@@ -17,7 +17,7 @@ lock members = do
   file ← members.file
   mode ← members.mode
   txn ← members.txn
-  Some (Lock txn file mode)
+  Some (Lock mode txn file)
 
 abbrev pub prepare : WorkMembers → Option WorkAsk
 prepare members = do
@@ -46,15 +46,18 @@ refresh members = do
   content ← members.content
   Some (Refresh file version content seen)
 
+abbrev pub small_work : List ℕ → WorkMembers → Option WorkAsk
+small_work kind members =
+    cond (bytes_eq kind (codes "lock")) (lock members)
+    (cond (bytes_eq kind (codes "prepare")) (prepare members)
+    (cond (bytes_eq kind (codes "decide")) (decide members)
+    (cond (bytes_eq kind (codes "release")) (option_map Release members.txn)
+    (cond (bytes_eq kind (codes "peek")) (option_map Peek members.file) None))))
+
 abbrev pub work_by : Option (List ℕ) → WorkMembers → Option WorkAsk
 work_by kind members = do
   kind ← kind
-  cond (bytes_eq kind (codes "lock")) (lock members)
-      (cond (bytes_eq kind (codes "prepare")) (prepare members)
-      (cond (bytes_eq kind (codes "decide")) (decide members)
-      (cond (bytes_eq kind (codes "release")) (option_map Release members.txn)
-      (cond (bytes_eq kind (codes "peek")) (option_map Peek members.file)
-      (cond (bytes_eq kind (codes "refresh")) (refresh members) None)))))
+  cond (bytes_eq kind (codes "refresh")) (refresh members) (small_work kind members)
 
 abbrev pub work : Option (List ℕ) → WorkMembers → Option NodeAsk
 work kind members = do

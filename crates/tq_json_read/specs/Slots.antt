@@ -4,8 +4,9 @@
 use Rattle.std.specs.Prelude.{◌≡◌, ◌<◌, get_or, ℕ, zero, suc, Bool, true, false, not, ◌&&◌, ◌||◌, nat_le, cond, List, [], ◌∷◌, length, map, Option, Some, None, ◌≢◌, ⊤, Result, Ok, Err, ◌^◌, ◌==◌, codes, option_map, IsTrue}
 use Rattle.std.specs.{Borrow.Bor, Option.option_and_then, Str.bytes_eq, List.list_all}
 use Rattle.serde_json.specs.{Data.{Data, Members}, Find.{get, as_str, as_array, get_member}}
-use Rattle.serde_json.specs.Read.{read, of_members, converted}
+use Rattle.serde_json.specs.Read.{read}
 use Rattle.tq_json.specs.{Member.{◌>>=◌, each, number_of}, declared.fault.NotRead.NotRead, Plain.is_plain_name}
+use Rattle.tq_json.specs.Next.{members_behind}
 use Rattle.tq_node.specs.NodeJournal.{NodeEntry}
 use Rattle.tq_tables.specs.Journals.{JournalsView}
 use Rattle.tq_json_read.specs.Frame.{journal, node_entry, desk_entry, view_entry, limits, one_each, journals_of, plan_of}
@@ -14,7 +15,7 @@ use Rattle.tq_json_read.specs.declared.read.Reading.TheVariants.{Journals, NoJou
 use Rattle.tq_json_read.specs.declared.file.{FileFields.FileFields, ServerJournals.ServerJournals}
 use Rattle.tq_json_read.specs.declared.view_reply.Servers.{Servers}
 use Rattle.tq_json_read.specs.Views as views
-use Rattle.json.specs.{Token.Token, Json.{members, value}}
+use Rattle.json.specs.Token.{Token}
 
 -- what an object has at each name
 abbrev pub Names : Type 0
@@ -165,10 +166,6 @@ servers_in levels place = views.kept (within_cap (Some (2 ^ levels)) (all_of num
 -- each byte of the names means itself in a string
 abbrev pub are_plain : List (List ℕ) → Bool
 are_plain keys = list_all is_plain_name keys
-
--- the members behind those that were found
-abbrev pub members_behind : Members → ℕ → List Token → Option (Members × List Token)
-members_behind found depth ts = converted (λ ms. of_members ms found) (members (value depth) (length ts) ts)
 
 -- nothing was found at any of the names
 abbrev pub HasNone : List (List ℕ) → Members → Type 0

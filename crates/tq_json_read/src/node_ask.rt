@@ -58,7 +58,7 @@ impl<'a> FromReader<'a> for WorkAsk {
             version,
             writes,
         };
-        Ok(work_by(kind, members))
+        Ok(work_by(alloc, kind, members)?)
     }
 }
 
@@ -116,10 +116,27 @@ impl<'a> FromReader<'a> for NodeAsk {
 }
 
 #[inline(always)]
-fn work_by(kind: Option<Word<'_>>, members: WorkMembers) -> Option<WorkAsk>
-    ensures { result ≡ spec.work_by kind.entry members }
+fn work_by(
+    alloc: Global,
+    kind: Option<Word<'_>>,
+    members: WorkMembers,
+) -> Result<Option<WorkAsk>, Memory>
+    ensures { IfOk result (λ ask. ask ≡ spec.work_by kind.entry members) }
 {
-    let kind = kind?;
+    let Some(kind) = kind else {
+        return Ok(None);
+    };
+    if kind.is("refresh") {
+        return refresh(alloc, members);
+    }
+    Ok(small_work(kind, members))
+}
+
+/// An ask of a kind that takes no memory.
+#[inline(always)]
+fn small_work(kind: Word<'_>, members: WorkMembers) -> Option<WorkAsk>
+    ensures { result ≡ spec.small_work kind.entry members }
+{
     if kind.is("lock") {
         return lock(members);
     }
@@ -136,9 +153,6 @@ fn work_by(kind: Option<Word<'_>>, members: WorkMembers) -> Option<WorkAsk>
     if kind.is("peek") {
         let file = members.file?;
         return Some(WorkAsk::Peek { file });
-    }
-    if kind.is("refresh") {
-        return refresh(members);
     }
     None
 }
@@ -186,8 +200,8 @@ fn decide(members: WorkMembers) -> Option<WorkAsk>
 }
 
 #[inline(always)]
-fn refresh(members: WorkMembers) -> Option<WorkAsk>
-    ensures { result ≡ spec.refresh members }
+fn refresh(alloc: Global, members: WorkMembers) -> Result<Option<WorkAsk>, Memory>
+    ensures { IfOk result (λ ask. ask ≡ spec.refresh members) }
 {
     let WorkMembers {
         content,
@@ -196,16 +210,26 @@ fn refresh(members: WorkMembers) -> Option<WorkAsk>
         version,
         ..
     } = members;
-    let file = file?;
-    let from = from?;
-    let version = version?;
-    let content = content?;
-    Some(WorkAsk::Refresh {
+    let Some(file) = file else {
+        return Ok(None);
+    };
+    let Some(from) = from else {
+        return Ok(None);
+    };
+    let Some(version) = version else {
+        return Ok(None);
+    };
+    let Some(content) = content else {
+        return Ok(None);
+    };
+    let file = Shared::new(alloc, file)?;
+    let content = Shared::new(alloc, content)?;
+    Ok(Some(WorkAsk::Refresh {
         file,
         version,
         content,
         from,
-    })
+    }))
 }
 
 #[inline(always)]
@@ -261,7 +285,7 @@ fn work(
 ) -> Result<Option<NodeAsk>, Memory>
     ensures { IfOk result (λ ask. ask ≡ spec.work kind.entry members) }
 {
-    let Some(ask) = work_by(kind, members) else {
+    let Some(ask) = work_by(alloc, kind, members)? else {
         return Ok(None);
     };
     let ask = Shared::new(alloc, ask)?;

@@ -4,8 +4,8 @@
 ghost use Rattle.std.specs.Prelude.{◌≡◌, ◌&&◌, ◌<◌, ◌≤◌, false, drop, length, nat_le, None, Err, IfOk, OnOk, IsTrue, MatchOption};
 ghost use Rattle.std.specs.Str.{bytes_eq};
 ghost use Rattle.serde_json.specs.{Find.get_member, Data.Members};
-ghost use Rattle.tq_json.specs.{Next.{next, next_members, Found}, Plain.is_plain_name};
-ghost use Rattle.tq_json_read.specs.Slots.{Names, names_of, with, slots_for, texts, IsNameAt, is_among, are_distinct, IsNameTaken, are_plain, members_behind};
+ghost use Rattle.tq_json.specs.{Next.{next, next_members, Found, members_behind}, Plain.is_plain_name};
+ghost use Rattle.tq_json_read.specs.Slots.{Names, names_of, with, slots_for, texts, IsNameAt, is_among, are_distinct, IsNameTaken, are_plain};
 
 use crate::entry::Plan;
 use crate::parts::{FromReader, Taken};
@@ -16,9 +16,9 @@ use tq_json::{NotRead, Reader, is_text, open_object, pass_over};
 pub(crate) trait Slots<'a>: Sized + Drop {
     ghost use Rattle.std.specs.Prelude.{◌≡◌, ◌<◌, ◌≤◌, false, drop, length, None, Err, IfOk, OnOk, IsTrue, MatchOption};
     ghost use Rattle.tq_json_read.specs.declared.entry.Plan.{Plan};
-    ghost use Rattle.tq_json_read.specs.Slots.{Slots as Values, with_slot, texts, is_among, are_distinct, IsNameAt, HasNone, IsTakenInOrder, are_plain, members_behind};
+    ghost use Rattle.tq_json_read.specs.Slots.{Slots as Values, with_slot, texts, is_among, are_distinct, IsNameAt, HasNone, IsTakenInOrder, are_plain};
+    ghost use Rattle.tq_json.specs.Next.{members_behind, next, Found};
     ghost use Rattle.serde_json.specs.Data.{Members};
-    ghost use Rattle.tq_json.specs.Next.{next, Found};
 
     /// What they are, by a plan, of the values in them.
     ghost of: { Plan → Values → Self };

@@ -8,10 +8,9 @@ use Rattle.tq_shape.proofs.Tree.{depth_of-bounds, depth_of-side}
 use Rattle.tq_live.specs.{Least.{least_member, changed_set, pair}, Live.{Live, costs_of, is_up}}
 use Rattle.tq_live.specs.Kept.{cost_for, allowed_for, found_set, found_weight, form_of, by_form, allowed_here, with_here, goes_left_at, weight_here, weight_of, form_in, found_in, under, changed_under, caches_on_way, top_of, IsComplete, StandsAt, even, seen_at, costs_at, mark_at, live_of, changed_live, IsAt}
 use Rattle.tq_live.specs.{Subtree.{Subtree, Alone, Over}, Costs.{even_costs, no_costs}, declared.costs.Costs.Costs}
-use Rattle.tq_live.specs.declared.least.{SearchFor.SearchFor, SearchFor.TheVariants.{Quorum, Blocker}}
-use Rattle.tq_live.specs.declared.costs.{Setting.Setting, Setting.TheVariants.{Cost, Mark}}
+use Rattle.tq_live.specs.declared.{least.SearchFor.{SearchFor, TheVariants.{Quorum, Blocker}}, costs.Setting.Setting}
+use Rattle.tq_live.{specs.declared.costs.Setting.TheVariants.{Cost, Mark}, proofs.Repair.{IsFork, fork_member}}
 use Rattle.tq_live.proofs.LeastMembers.{top_weight, least_weight, least_weight-leaf, least_weight-from, with_top, least_member-leaf}
-use Rattle.tq_live.proofs.Repair.{IsFork, fork_member}
 use Rattle.tq_live.proofs.Ways.{left_side, right_side, under-step, under-left, under-right, complete-under, caches-complete, seen_after, changed-here, changed-elsewhere}
 
 -- ---- depths

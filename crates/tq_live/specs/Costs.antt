@@ -1,8 +1,7 @@
 -- What a server costs for each purpose. The words for purposes.
 use Rattle.std.specs.{Prelude.{ℕ, ◌≤◌, refl, List, Option, Some, None, cond, codes}, Str.bytes_eq}
 use Rattle.std.specs.Coded.{Coded, code_by, coded×, coded_ℕ}
-use Rattle.tq_live.specs.declared.purpose.{Purpose.Purpose, Purpose.TheVariants.{Read, Write}}
-use Rattle.tq_live.specs.declared.costs.Costs.{Costs}
+use Rattle.tq_live.specs.declared.{purpose.Purpose.{Purpose, TheVariants.{Read, Write}}, costs.Costs.Costs}
 
 -- the cost for that purpose
 abbrev pub cost_to : Purpose → Costs → ℕ

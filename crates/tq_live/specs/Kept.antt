@@ -5,13 +5,12 @@ use Rattle.std.specs.Prelude.{ℕ, Bool, not, List, Option, sum_by, cond, zero, 
 use Rattle.std.specs.List.{range_with_len}
 use Rattle.tq_shape.specs.Tree.{height_of, IsServer, left_of, right_of, depth_of}
 use Rattle.tq_live.specs.Least.{least_member, weight_by, is_less, plus, lesser, changed_set, pair}
-use Rattle.tq_live.specs.{Live.{Live, cost_of, is_up, costs_of}, declared.least.SearchFor.SearchFor}
-use Rattle.tq_live.specs.declared.{least.SearchFor.TheVariants.{Quorum, Blocker}, weight.Form.Form, costs.Costs.Costs}
+use Rattle.tq_live.specs.{Live.{Live, cost_of, is_up, costs_of}, declared.{least.SearchFor.SearchFor, weight.Form.Form}}
+use Rattle.tq_live.specs.declared.{least.SearchFor.TheVariants.{Quorum, Blocker}, costs.Costs.Costs, node.Below.Below}
 use Rattle.tq_live.specs.declared.{weight.Form.TheVariants.{WithLeft, WithRight, BothSides}, purpose.Purpose.Purpose}
 use Rattle.tq_live.specs.{Costs.{cost_to, even_costs, AreLow}, Subtree.{Subtree, Alone, Over, leaves}}
-use Rattle.tq_live.specs.declared.{purpose.Purpose.TheVariants.{Read, Write}, tree.cache.Cache.Cache, node.Below.Below}
-use Rattle.tq_live.specs.declared.{tree.cache.Column.Column, costs.Setting.Setting}
-use Rattle.tq_live.specs.declared.costs.Setting.TheVariants.{Cost, Mark}
+use Rattle.tq_live.specs.declared.{purpose.Purpose.TheVariants.{Read, Write}, tree.cache.{Cache.Cache, Column.Column}}
+use Rattle.tq_live.specs.declared.costs.Setting.{Setting, TheVariants.{Cost, Mark}}
 use Rattle.tq_live.specs.declared.node.Below.TheVariants as belows
 
 -- what a server costs

@@ -1,15 +1,14 @@
 -- What an ask of a view is to change, and the view with a change made. A view's plans may be made, and lead where its
 -- asks do; its levels stay. A view's replies are of its tree.
 use Rattle.std.specs.{Prelude.{◌≡◌, ◌-◌, ℕ, List, Option, Some, None, cond, slice_set, ⊤}, List.All}
-use Rattle.tq_live.specs.{Live.{Live, best}, Costs.AreLow, declared.purpose.Purpose.Purpose, declared.costs.Costs.Costs}
-use Rattle.tq_live.specs.View.{is_server, are_costs, view_after, view_state, view_reply, view_reply_at, view_after_at, IsLegalView, choice_reply}
-use Rattle.tq_live.specs.declared.view.{ViewAsk.ViewAsk, ViewAsk.TheVariants.{SetCost, Mark, Choose}}
-use Rattle.tq_live.specs.declared.view.{ViewChange.ViewChange, ViewReply.ViewReply}
-use Rattle.tq_live.specs.declared.view.ViewReply.TheVariants.{CostSet, Marked, Chosen, Refused}
-use Rattle.tq_live.specs.declared.view.ViewRefusal.TheVariants.{NoSuchServer, BadCost, Blocked}
-use Rattle.tq_live.specs.declared.view.ViewChange.TheVariants as changes
 use Rattle.std.proofs.Common.{Bool, true, false, refl, set, arith, ◌+◌, ◌∙◌, [], ◌∷◌, sym, subst}
 use Rattle.std.proofs.lemmas.List.Elements.{All-nil, All-cons}
+use Rattle.tq_live.specs.{Live.{Live, best}, Costs.AreLow, declared.{purpose.Purpose.Purpose, costs.Costs.Costs}}
+use Rattle.tq_live.specs.View.{is_server, are_costs, view_after, view_state, view_reply, view_reply_at, view_after_at, IsLegalView, choice_reply}
+use Rattle.tq_live.specs.declared.view.{ViewAsk.{ViewAsk, TheVariants.{SetCost, Mark, Choose}}, ViewChange.ViewChange}
+use Rattle.tq_live.specs.declared.view.ViewReply.{ViewReply, TheVariants.{CostSet, Marked, Chosen, Refused}}
+use Rattle.tq_live.specs.declared.view.ViewRefusal.TheVariants.{NoSuchServer, BadCost, Blocked}
+use Rattle.tq_live.specs.declared.view.ViewChange.TheVariants as changes
 use Rattle.tq_shape.specs.{declared.part.Entry.Entry, Journal.IsLegalFrom}
 
 -- a quorum that is chosen is kept for its purpose

@@ -5,8 +5,7 @@ use std::alloc::Global;
 use tq_shape::{Answers, ExactClone, Memory, Plan};
 
 impl Answers for View {
-    ghost use Rattle.std.specs.Prelude.{[]};
-    ghost use Rattle.std.proofs.Common.{ap};
+    ghost use Rattle.std.{specs.Prelude.[], proofs.Common.ap};
     ghost use Rattle.tq_live.specs.View.{view_reply, view_after, view_state};
     ghost use Rattle.tq_live.specs.ViewLaws.{view_change, view_changed, ViewFits, change_fits, change_leads, keeps_levels};
 

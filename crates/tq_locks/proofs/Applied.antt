@@ -9,8 +9,7 @@ use Rattle.std.specs.FinMap as fin
 use Rattle.std.specs.{List.Sorted.IsPermutation, Map.lookup, Option.{option_map, option_map_or}}
 use Rattle.std.specs.FinMap.Entries.{find, is_sorted, below_all, is_sorted-where_key, find-where_key}
 use Rattle.std.specs.List.{insert, remove, slice_get, filter_map, cons_option, AllByRecursion, IsDistinct}
-use Rattle.std.specs.{Ordering.{is_lt, is_eq}, declared.cmp.Ordering.Ordering}
-use Rattle.std.specs.declared.cmp.Ordering.TheVariants.{Less, Equal, Greater}
+use Rattle.std.specs.{Ordering.{is_lt, is_eq}, declared.cmp.Ordering.{Ordering, TheVariants.{Less, Equal, Greater}}}
 use Rattle.slab.specs.Slab.{Slab, get, Updates}
 use Rattle.tq_store.specs.Names.{same_name}
 use Rattle.tq_shape.specs.Journal.{Has, state_at}

@@ -3,8 +3,7 @@ use Rattle.std.proofs.Common.{◌≡◌, ◌+◌, ◌-◌, ◌*◌, ◌%◌, ◌
 use Rattle.std.proofs.lemmas.List.{append_assoc, append-nil, length-append, length-drop, length-take-le, take-append-le, drop-append-le, take_at, drop_at, take-append-drop, set_split, drop_more, drop_all, take_all, get_or-drop, get_or-take, get_or_append_left, get_or-append_right}
 use Rattle.std.proofs.lemmas.List.Edits.{length-remove, length-between, insert-append_left, insert-append_right, insert_end, remove-append_right}
 use Rattle.std.proofs.lemmas.List.Sorted.{IsPermutation-refl, IsPermutation-append_comm, IsPermutation-trans, IsPermutation-append_left, IsPermutation-append_right}
-use Rattle.std.proofs.Math.Nat.{mod-lt}
-use Rattle.std.specs.{List.{insert, remove}, List.Sorted.IsPermutation}
+use Rattle.std.{proofs.Math.Nat.mod-lt, specs.List.{insert, remove, Sorted.IsPermutation}}
 use Rattle.smallvec.specs.SmallVec.{SmallVec, HasRoomFor}
 use borrow.Rule.Slice.PartMut.{put_mid}
 use Rattle.tq_locks.specs.Keys.{turn, turned_keys, keys_of, HasRoomBehind}

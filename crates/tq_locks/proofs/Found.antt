@@ -13,8 +13,7 @@ use Rattle.tq_locks.specs.Locks.{LockKey, lock_cmp}
 use lib.Dec.{T}
 use mathlib.Core.Bool.{true≢false}
 use Rattle.std.specs.FinMap as fin
-use Rattle.tq_shape.proofs.Options.{is_eq-Equal}
-use Rattle.tq_shape.specs.Journal.{Has}
+use Rattle.tq_shape.{proofs.Options.is_eq-Equal, specs.Journal.Has}
 
 pub locks_total : IsTotalOrder lock_cmp
 locks_total = then_total (on_total (λ (k : LockKey). k.0) nat_list_cmp_total) (on_total (λ (k : LockKey). k.1) nat_cmp_total)

@@ -7,8 +7,8 @@ use Rattle.std.specs.{List.{list_any, filter_map, cons_option, slice_get, AllZip
 use Rattle.std.specs.Map.{lookup}
 use Rattle.tq_shape.specs.Journal.{Has}
 use Rattle.tq_locks.proofs.Found.{none_some, some_same}
-use Rattle.slab.specs.Slab.{Slab, get, slab_len, Updates}
 use Rattle.tq_locks.specs.{declared.mode.Lock.Lock, Locks.{LockKey, ListsLoose, room_with, with_lock}}
+use Rattle.slab.specs.Slab.{Slab, get, slab_len, Updates}
 use Rattle.smallvec.specs.SmallVec.{SmallVec}
 
 pub Has-more : (xs ys : List ℕ) (k : ℕ) → Has xs k → Has (xs ++ ys) k

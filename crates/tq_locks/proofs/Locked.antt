@@ -9,12 +9,10 @@ use Rattle.std.specs.{Ordering.{nat_cmp, is_lt, eq_by_cmp, ordering_then}, decla
 use Rattle.std.specs.declared.cmp.Ordering.TheVariants.{Less}
 use Rattle.std.specs.FinMap as fin
 use Rattle.std.specs.List as lists
-use Rattle.tq_locks.specs.{Kept.first_blocker, declared.mode.Mode.Mode, declared.mode.Lock.Lock}
+use Rattle.tq_locks.specs.{Kept.first_blocker, declared.mode.{Mode.{Mode, TheVariants.{Shared, Exclusive}}, Lock.Lock}}
 use Rattle.tq_locks.specs.Locks.{LockKey, Locks, lock_cmp, conflicts, stronger, blocks, Blocks, IsFree, IsLeastBlocker, blocker, lock_after, locks_after_grant, locks_after_release, only_stable, entry_after_keep, locks_after_keep, HasNoConflict}
-use Rattle.tq_locks.specs.declared.mode.Mode.TheVariants.{Shared, Exclusive}
 use Rattle.tq_locks.proofs.Found.{first, second, below_each, some_same, none_some, none_passes, first_passes, entry_of, get-entry_of, locks_total, locks_same}
-use Rattle.tq_shape.proofs.{Places.find-Has, Options.is_eq-Equal}
-use Rattle.tq_shape.specs.Journal.{Has}
+use Rattle.tq_shape.{proofs.{Places.find-Has, Options.is_eq-Equal}, specs.Journal.Has}
 
 abbrev key : List ℕ → ℕ → LockKey
 key file txn = (file, txn)

@@ -1,8 +1,7 @@
 -- A key that goes down a list, one place after the other. What happens in one block.
 use Rattle.std.proofs.Common.{◌≡◌, ◌<◌, ◌++◌, ℕ, zero, suc, List, [], ◌∷◌, length, slice_index_or, slice_set, refl, ap, arith, ◌+◌, ◌-◌, ◌%◌, take, drop, get_or, sym, ◌∙◌, inl, inr}
 use Rattle.std.proofs.lemmas.List.{append_assoc, append-nil, length-append, length-drop, length-take, length-take-le, take_at, drop_at, set_at, take_all, drop_all, take-append-drop, take_more, drop_more, take_more_set, drop-set-lt, get_or-drop, get_or-take, get_or_append_left, get_or-append_right, get_or-set_same, length-set, set-set, set-get_or}
-use Rattle.std.proofs.{lemmas.Bool.cases_lt, Math.Nat.{mod-eq_of_lt, mod-lt}}
-use Rattle.std.specs.List.{insert, swap, copy_within}
+use Rattle.std.{proofs.{lemmas.Bool.cases_lt, Math.Nat.{mod-eq_of_lt, mod-lt}}, specs.List.{insert, swap, copy_within}}
 use Rattle.tq_locks.specs.Keys.{turn}
 
 pub longer : (front : List ℕ) (key : ℕ) → length (front ++ key ∷ []) ≡ suc (length front)

@@ -12,11 +12,10 @@ use Rattle.std.specs.declared.cmp.{Ordering.Ordering, Ordering.TheVariants.{Less
 use Rattle.slab.specs.Slab.{Slab, get, entries_from, values}
 use Rattle.tq_store.specs.Names.{same_name}
 use Rattle.tq_shape.specs.Journal.{Has}
-use Rattle.tq_locks.specs.{declared.keyed.KeyedLocks.KeyedLocks, declared.mode.Lock.Lock, Keys.keys_under}
+use Rattle.tq_locks.specs.{declared.{keyed.KeyedLocks.KeyedLocks, mode.Lock.Lock}, Keys.keys_under}
 use Rattle.tq_locks.specs.Locks.{LockKey, Locks, lock_cmp, held_of, locks_after_keep, entry_after_keep, steady_entry, entry_after_steady}
-use Rattle.tq_locks.specs.Kept.{AreKeysOf, Agrees}
-use Rattle.tq_locks.proofs.{Found.{locks_total, locks_same, none_some, some_same, both}, Locked.get-kept}
-use Rattle.tq_locks.proofs.{Placed.{sorted-valued, turned}, Changed.{key_of_lock, find-agreed}}
+use Rattle.tq_locks.{specs.Kept.{AreKeysOf, Agrees}, proofs.Found.{locks_total, locks_same, none_some, some_same, both}}
+use Rattle.tq_locks.proofs.{Locked.get-kept, Placed.{sorted-valued, turned}, Changed.{key_of_lock, find-agreed}}
 use Rattle.tq_locks.proofs.Agreed.{filter-valued, Has-filter, found_changed, item_of, apart, values-Has}
 
 abbrev Entry : Type 0

@@ -2,25 +2,24 @@
 -- cites, and on nothing else of the world.
 use Rattle.std.proofs.Common.{◌≡◌, ◌<◌, ◌+◌, ℕ, List, [], ◌∷◌, ◌++◌, length, map, take, get_or, sym, ap, ◌∙◌, append_assoc, ◌≤◌, Bool, true, false, Option, Some, None, refl, subst, inl, inr, arith}
 use Rattle.std.proofs.lemmas.List.{append-nil}
+use Rattle.std.specs.Option.{option_map, option_map_or, option_and_then, option_to_list}
 use Rattle.tq_evidence.specs.declared.{op.Op.Op, grant.Grant.Grant, vote.Vote.Vote}
 use Rattle.tq_core.specs.{declared.citation.Citation.Citation, declared.answer.Step.Step, World.{item_at, server_entry}}
 use Rattle.tq_core.specs.Founded.{cited_grant, is_founded_grant, is_founded_vote, is_founded_copy, is_founded_verdict, is_granted, is_voted, is_peeked, is_ended, cited_vote, unless, unfounded_op, unfounded_vote, cited_in_work, unfounded_in_work}
-use Rattle.tq_tables.proofs.RowLaws.{take-next}
+use Rattle.tq_core.proofs.Contents.{tested-is, unless_none, ops-are, votes-are, commit-founded}
+use Rattle.tq_tables.{proofs.RowLaws.take-next, specs.Journals.{JournalsView, ViewEntry}}
 use Rattle.tq_merge.specs.{Placing.{cited_in_ops, cited_in}, Order.{firsts, unfounded_citation}}
-use Rattle.std.specs.Option.{option_map, option_map_or, option_and_then, option_to_list}
+use Rattle.tq_merge.proofs.Places.{first_item, item_first, item_each}
 use Rattle.tq_shape.specs.{Journal.Has, declared.part.Part.Part}
-use Rattle.tq_shape.specs.declared.part.Part.TheVariants as parts
 use Rattle.tq_shape.proofs.{Options.or_else-none, Places.{append-Has, map-Has, Has-append, Has-map}}
+use Rattle.tq_shape.specs.declared.part.Part.TheVariants as parts
 use Rattle.tq_asks.specs.declared.ask.NodeAsk.TheVariants as node_asks
 use Rattle.tq_asks.specs.declared.ask.WorkAsk.{WorkAsk}
 use Rattle.tq_asks.specs.declared.ask.WorkAsk.TheVariants as work
 use Rattle.tq_desk.specs.declared.ask.DeskAsk.TheVariants as desk_asks
-use Rattle.tq_tables.specs.Journals.{JournalsView, ViewEntry}
 use Rattle.tq_node.specs.NodeJournal.{NodeEntry}
 use Rattle.tq_desk.specs.DeskJournal.{DeskEntry}
 use Rattle.tq_core.specs.declared.answer.Step.TheVariants as steps
-use Rattle.tq_core.proofs.Contents.{tested-is, unless_none, ops-are, votes-are, commit-founded}
-use Rattle.tq_merge.proofs.Places.{first_item, item_first, item_each}
 
 cited_ops-push : (ops : List Op) (op : Op) → cited_in_ops (ops ++ op ∷ []) ≡ cited_in_ops ops ++ map cited_grant op.grants
 cited_ops-push [] op = append-nil (map cited_grant op.grants)

@@ -2,23 +2,20 @@
 -- placed, and what follows where they are or are not. Rounds: each part in its turn, until nothing can be placed.
 use Rattle.std.proofs.Common.{◌≡◌, ◌≢◌, ◌≤◌, ◌<◌, ℕ, suc, Bool, true, false, List, [], ◌∷◌, ◌++◌, length, Option, Some, refl, sym, ap, subst, ◌∙◌, nat_lt, arith, append_assoc, ◌⊎◌, inl, inr, ◌+◌, ◌-◌, cond, map, None}
 use Rattle.std.proofs.lemmas.{Bool.{false≢true, cases_Bool}, List.append-nil, Option.{slice_get-map, slice_get_within}}
-use Rattle.std.proofs.Math.Path.{transport}
-use Rattle.std.specs.{Option.{unwrap_or, option_map}, Prelude.slice_get}
+use Rattle.std.{proofs.Math.Path.transport, specs.{Option.{unwrap_or, option_map}, Prelude.slice_get}}
 use Rattle.tq_shape.specs.declared.part.Part.{Part}
 use Rattle.tq_shape.specs.declared.part.Part.TheVariants as parts
 use Rattle.tq_tables.specs.{Journals.{JournalsView, ViewEntry, AreJournals}, Parts.AreLegal}
-use Rattle.tq_node.specs.NodeJournal.{NodeEntry}
+use Rattle.tq_node.{specs.NodeJournal.NodeEntry, proofs.KeptLocks.map-some}
 use Rattle.tq_desk.specs.DeskJournal.{DeskEntry}
 use Rattle.tq_core.specs.{declared.answer.Step.Step, World.{item_at, server_entry}, Steps.run}
-use Rattle.tq_core.specs.Headline.{HasCommittedReads}
+use Rattle.tq_core.{specs.Headline.HasCommittedReads, proofs.{Committed.reads_of_run, Journaled.item_above}}
 use Rattle.tq_core.specs.declared.answer.Step.TheVariants as steps
 use Rattle.tq_merge.specs.{declared.fault.Counts.Counts, Placing.{IsPlacing, IsDone, entries_left}}
 use Rattle.tq_merge.specs.Order.{same_part, times, entries_of, counts_of, step_at, IsNext, ArePlaced, IsStuck, each_from, Explains, asks_of}
 use Rattle.tq_merge.proofs.Places.{same_part-is, same_part-refl, times-same, times-other, item_at-suc, item_each}
 use Rattle.tq_merge.proofs.{Founding.founded_more, Runs.{chained, is_entry, run_is, of_run}}
-use Rattle.tq_node.proofs.KeptLocks.{map-some}
 use Rattle.tq_asks.specs.declared.ask.CitedVote.{CitedVote}
-use Rattle.tq_core.proofs.{Committed.reads_of_run, Journaled.item_above}
 
 cases_le : (a b : ℕ) → a ≤ b → (a < b) ⊎ (a ≡ b)
 cases_le a b le = by (nat_lt a b) refl

@@ -1,12 +1,11 @@
 -- Members of lists with one more, and where parts stand. The last numbers of all parts.
 use Rattle.std.proofs.Common.{◌≡◌, ◌⊎◌, inl, inr, ◌<◌, ◌≤◌, ℕ, zero, suc, List, [], ◌∷◌, ◌++◌, length, get_or, refl, ap, arith, ◌+◌, set, take, drop, sym, subst, ◌∙◌, append_assoc, append-nil}
-use Rattle.std.proofs.{Math.Path.transport, lemmas.Bool.cases_eq, lemmas.List.Elements.All-get_or}
+use Rattle.std.{proofs.{Math.Path.transport, lemmas.{Bool.cases_eq, List.Elements.All-get_or}}, specs.List.All}
 use Rattle.std.proofs.lemmas.List.{get_or-set_same, get_or-set_other, get_or_default, take-append-drop, drop_more, take_more}
 use Rattle.tq_shape.specs.{Journal.Has, declared.part.Part.Part, declared.part.Part.TheVariants.{Server, Desk, View}}
 use Rattle.tq_shape.proofs.Places.{Has-append, append-Has}
 use Rattle.tq_merge.specs.Told.{place_of, IsAbove, RiseAfter, IsFallen, IsWithin}
 use Rattle.tq_merge.specs.declared.claimed.EntryName.{EntryName}
-use Rattle.std.specs.List.{All}
 
 pub has_push : {A : Type 0} (xs : List A) (y x : A) → Has (xs ++ y ∷ []) x → Has xs x ⊎ (y ≡ x)
 has_push xs y x has = elim (Has-append xs (y ∷ []) x has) [ inl old ↦ inl old | inr (inl same) ↦ inr same | inr (inr none) ↦ absurd none ]

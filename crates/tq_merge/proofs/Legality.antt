@@ -10,7 +10,7 @@ use Rattle.tq_shape.proofs.Joined.{legal-push, legal-reverse, reverse-legal}
 use Rattle.tq_node.specs.{Records.{node_reply, node_after}, NodeJournal.{nothing_stored, IsLegalNode, NodeEntry}}
 use Rattle.tq_tables.specs.{Parts.{AreLegalServers, AreLegal, bounds_of}, Journals.JournalsView}
 use Rattle.tq_tables.proofs.RowLaws.{take-next}
-use Rattle.tq_core.specs.World.{item_at}
+use Rattle.tq_core.{specs.World.item_at, proofs.Journaled.item_above}
 use Rattle.tq_merge.specs.Wrong.{IsFirstWrong, IsLegalServer, IsWrongOfServer, IsWrongOfServers, IsWrong}
 use Rattle.tq_merge.specs.declared.claimed.EntryName.{EntryName}
 use Rattle.tq_merge.specs.Told.{IsWithin, Stands, names_in, names_of, all_names, entry_counts}
@@ -18,7 +18,6 @@ use Rattle.tq_merge.proofs.{Places.item_at-suc, Runs.{legal_at, legal_server}}
 use Rattle.tq_shape.specs.declared.part.Part.TheVariants as parts
 use Rattle.tq_desk.specs.DeskJournal.{step_reply, step_after, opened_desk}
 use Rattle.tq_live.specs.View.{view_reply_at, view_after_at, view_state}
-use Rattle.tq_core.proofs.Journaled.{item_above}
 use Rattle.tq_txn.specs.declared.asker.Exchange.{Exchange}
 use Rattle.tq_txn.specs.declared.asker.Exchange.TheVariants as exchanges
 

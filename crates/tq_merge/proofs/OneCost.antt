@@ -4,12 +4,10 @@
 -- stuck where they were by one cost.
 use Rattle.std.proofs.Common.{◌≡◌, ◌↔◌, ◌+◌, ◌-◌, ℕ, List, [], ◌∷◌, take, Some, sym, subst, ◌∙◌, ◌^◌, ◌==◌, zero, suc, Bool, true, false, cond, map, Option, None, get_or, sum_by, refl, ap}
 use Rattle.std.proofs.lemmas.List.Elements.{All-head, All-tail, All-take, All-get_or, All-nil, All-push}
-use Rattle.std.proofs.lemmas.Option.{slice_get_within, get_or_from_slice_get}
-use Rattle.std.specs.List.{All}
+use Rattle.std.{proofs.lemmas.Option.{slice_get_within, get_or_from_slice_get}, specs.List.All}
 use Rattle.tq_shape.specs.{declared.part.Entry.Entry, Journal.{state_from, IsLegalFrom, entry}, Tree.height_of}
 use Rattle.tq_shape.specs.declared.part.Part.{Part}
-use Rattle.tq_core.specs.World.{item_at}
-use Rattle.tq_core.proofs.Journaled.{item_above}
+use Rattle.tq_core.{specs.World.item_at, proofs.Journaled.item_above}
 use Rattle.tq_merge.specs.{Wrong.{IsFirstWrong, IsWrong, IsWrongOfView}, declared.fault.Counts.Counts}
 use Rattle.tq_merge.specs.OneCost.{TreeByOne, cost_by_one, up_by_one, best_by_one, choice_by_one, reply_by_one, cost_told, cost_since, journal_cost, tree_by_one, told_by_one, grown_by_one, AreEqual, IsLegalViewByOne, AreLegalByOne, IsWrongByOne, ExplainsByOne, IsStuckByOne, HasEqualCosts, AgreesByOne}
 use Rattle.tq_merge.specs.Order.{Explains, IsStuck}
@@ -17,12 +15,10 @@ use mathlib.Core.Bool.{and_self}
 use Rattle.tq_shape.proofs.Tree.{height_of-one}
 use Rattle.tq_live.specs.{Live.{Live, cost_of, best}, Least.least_member, Costs.{even_costs, cost_to}}
 use Rattle.tq_live.specs.View.{view_reply, view_after, view_state, view_reply_at, view_after_at, choice_reply, costs_told, costs_since, journal_costs, is_server, is_cost, are_costs, upwards, IsLegalView}
-use Rattle.tq_live.specs.declared.purpose.{Purpose.Purpose, Purpose.TheVariants.{Read, Write}}
-use Rattle.tq_live.specs.declared.{costs.Costs.Costs, view.ViewAsk.ViewAsk, view.ViewReply.ViewReply}
-use Rattle.tq_live.specs.declared.view.ViewAsk.TheVariants.{SetCost, Mark, Choose}
+use Rattle.tq_live.specs.declared.{purpose.Purpose.{Purpose, TheVariants.{Read, Write}}, costs.Costs.Costs}
+use Rattle.tq_live.specs.declared.view.{ViewAsk.{ViewAsk, TheVariants.{SetCost, Mark, Choose}}, ViewReply.ViewReply}
 use Rattle.tq_live.specs.declared.view.ViewReply.TheVariants.{CostSet, Chosen, Refused}
-use Rattle.tq_live.specs.declared.view.ViewRefusal.TheVariants.{NoSuchServer, BadCost}
-use Rattle.tq_live.proofs.Journal.{journal_goes_on}
+use Rattle.tq_live.{specs.declared.view.ViewRefusal.TheVariants.{NoSuchServer, BadCost}, proofs.Journal.journal_goes_on}
 use Rattle.tq_tables.specs.{Journals.{ViewEntry, JournalsView}, Parts.AreLegal}
 use Rattle.tq_shape.specs.declared.part.Part.TheVariants as parts
 

@@ -3,25 +3,23 @@ use Rattle.std.specs.Prelude.{slice_get, slice_set, is_none}
 use Rattle.std.specs.Option.{option_map, option_map_or, option_and_then, option_to_list}
 use Rattle.std.proofs.Common.{◌≡◌, ◌≢◌, ◌≤◌, ◌+◌, ◌-◌, ℕ, zero, suc, Bool, true, false, List, [], ◌∷◌, ◌++◌, length, take, Option, Some, None, refl, sym, ap, subst, ◌∙◌, nat_le, ◌⊎◌, inl, inr, arith}
 use Rattle.std.proofs.lemmas.{List.take_all, Bool.{false≢true, and_parts, and_from, le-leb, leb-true}}
-use Rattle.tq_shape.specs.{Journal.Has, declared.part.Part.Part}
+use Rattle.tq_shape.{specs.{Journal.Has, declared.part.Part.Part}, proofs.Places.{map-Has, Has-map}}
 use Rattle.tq_shape.specs.declared.part.Part.TheVariants as parts
-use Rattle.tq_shape.proofs.Places.{map-Has, Has-map}
 use Rattle.tq_asks.specs.declared.ask.{CitedVote.CitedVote, NodeAsk.NodeAsk, WorkAsk.WorkAsk}
 use Rattle.tq_asks.specs.declared.ask.NodeAsk.TheVariants as node_asks
 use Rattle.tq_asks.specs.declared.ask.WorkAsk.TheVariants as work
 use Rattle.tq_tables.specs.Journals.{JournalsView, ViewEntry}
-use Rattle.tq_node.specs.NodeJournal.{NodeEntry}
+use Rattle.tq_node.{specs.NodeJournal.NodeEntry, proofs.KeptLocks.map-some}
 use Rattle.tq_desk.specs.DeskJournal.{DeskEntry}
 use Rattle.tq_core.specs.{declared.answer.Step.Step, declared.citation.Citation.Citation, World.{item_at, server_entry}}
 use Rattle.tq_core.specs.Founded.{cited_in_work, cited_in_node_ask, unfounded_in_node_ask, unfounded_in_desk_ask}
+use Rattle.tq_core.proofs.Journaled.{item_above}
 use Rattle.tq_core.specs.declared.answer.Step.TheVariants as steps
 use Rattle.tq_merge.specs.Placing.{cited_in, entry_cited, is_placed, is_citation_placed, is_placed_in_node_ask, is_ready, IsWanted, IsNextWanted, IsPlacing, sum_of, entries_left}
 use Rattle.tq_merge.specs.Order.{times, each_from, counts_of, placed_journals, step_at, unfounded_citation, IsNext}
 use Rattle.tq_merge.proofs.Places.{times-more, times-same, times-other, item_at-suc, item_each, each_set, each_after, each_same, take_none}
 use Rattle.tq_merge.proofs.Founding.{cited_stands, entry_of_firsts, founded_whole, founded_cites, founded_firsts}
 use Rattle.tq_merge.proofs.{Runs.{chained, is_entry}, Greedy.placed-more}
-use Rattle.tq_core.proofs.Journaled.{item_above}
-use Rattle.tq_node.proofs.KeptLocks.{map-some}
 
 -- ---- tests of numbers
 

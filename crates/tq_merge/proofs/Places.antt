@@ -4,8 +4,7 @@ use Rattle.std.proofs.Common.{◌≡◌, ◌≢◌, ◌≤◌, ◌<◌, ◌+◌,
 use Rattle.std.proofs.{Math.Seq.take-suc, lemmas.List.Sums.fold-append, lemmas.Bool.{eqb-true, eq-eqb, false≢true}}
 use Rattle.std.proofs.lemmas.Option.{slice_get_within, get_or_from_slice_get}
 use Rattle.tq_shape.specs.declared.part.{Part.Part, Part.TheVariants.{Server, Desk, View}}
-use Rattle.tq_core.specs.World.{item_at}
-use Rattle.tq_core.proofs.Journaled.{item_above, item_below}
+use Rattle.tq_core.{specs.World.item_at, proofs.Journaled.{item_above, item_below}}
 use Rattle.tq_merge.specs.Order.{same_part, times, each_from}
 
 -- ---- parts

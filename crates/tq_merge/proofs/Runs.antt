@@ -4,24 +4,22 @@ use Rattle.std.specs.Option.{option_map, option_and_then, option_to_list, unwrap
 use Rattle.std.proofs.Common.{◌≡◌, ◌≢◌, ◌≤◌, ◌<◌, ◌+◌, ◌-◌, ◌^◌, ℕ, zero, suc, false, List, [], ◌∷◌, ◌++◌, length, take, replicate, reverse, Option, Some, None, refl, sym, ap, subst, ◌∙◌, nat_le, arith, append_assoc, length-take-le}
 use Rattle.std.proofs.lemmas.{List.{append-nil, take_all}, Option.{get_or_from_slice_get, slice_get_within}}
 use Rattle.tq_shape.specs.{Journal.{state_from, IsLegalFrom, entry}, declared.part.Entry.Entry, declared.part.Part.Part}
-use Rattle.tq_shape.specs.declared.part.Part.TheVariants as parts
 use Rattle.tq_shape.proofs.Joined.{reverse-legal}
+use Rattle.tq_shape.specs.declared.part.Part.TheVariants as parts
 use Rattle.tq_asks.specs.declared.ask.{NodeAsk.NodeAsk, NodeReply.NodeReply}
 use Rattle.tq_node.specs.{Records.{node_reply, node_after}, NodeJournal.{IsLegalNode, nothing_stored, NodeEntry}}
+use Rattle.tq_node.proofs.KeptLocks.{map-some}
 use Rattle.tq_desk.specs.{declared.ask.DeskReply.DeskReply, DeskStep.desk_reply}
 use Rattle.tq_desk.specs.DeskJournal.{step_reply, step_after, opened_desk, DeskEntry}
-use Rattle.tq_live.specs.{Live.Live, declared.view.ViewReply.ViewReply}
+use Rattle.tq_live.{specs.{Live.Live, declared.view.ViewReply.ViewReply}, proofs.Journal.replays}
 use Rattle.tq_live.specs.View.{view_reply, view_reply_at, view_after_at, view_state}
-use Rattle.tq_live.proofs.Journal.{replays}
-use Rattle.tq_tables.specs.Journals.{JournalsView, AreJournals, ViewEntry}
+use Rattle.tq_tables.specs.Journals.{JournalsView, AreJournals, ViewEntry, no_entries}
 use Rattle.tq_tables.specs.Parts.{AreLegal, AreLegalServers, bounds_of}
-use Rattle.tq_core.specs.declared.{answer.Refusal.Refusal, answer.Step.Step, citation.Citation.Citation}
-use Rattle.tq_core.specs.World.{item_at, server_entry, empty_world, node_at, desk_at, view_at}
-use Rattle.tq_core.specs.Founded.{unfounded_in_node_ask, unfounded_in_desk_ask}
+use Rattle.tq_core.specs.declared.{answer.{Refusal.Refusal, Step.Step}, citation.Citation.Citation}
+use Rattle.tq_core.{specs.World.{item_at, server_entry, node_at, desk_at, view_at}, proofs.Runs.world_grown}
+use Rattle.tq_core.{specs.Founded.{unfounded_in_node_ask, unfounded_in_desk_ask}, proofs.Journaled.item_above}
 use Rattle.tq_core.specs.Steps.{refuse_entry, refuse_at, refusal, server_journal, node_entry, desk_entry, view_entry, world_with_step, world_after, run_from, run, IsOfRun}
 use Rattle.tq_core.specs.declared.answer.Step.TheVariants as steps
-use Rattle.tq_core.proofs.{Runs.world_grown, Journaled.item_above}
-use Rattle.tq_node.proofs.KeptLocks.{map-some}
 use Rattle.tq_merge.specs.Order.{times, entries_of, firsts, placed_journals, step_at, unfounded_citation, ArePlaced, Explains, steps_from, asks_of}
 use Rattle.tq_merge.proofs.Places.{times-same, times-other, item_at-suc, item_each, take_next, take_none, each_same, each_set, each_is, each_none}
 
@@ -210,7 +208,7 @@ module _ (journals : JournalsView) (are : AreJournals journals) (legal : AreLega
 
 -- ---- the whole order
 
-nothing_first : (journals : JournalsView) → AreJournals journals → firsts journals (times []) ≡ empty_world journals.levels journals.limits
+nothing_first : (journals : JournalsView) → AreJournals journals → firsts journals (times []) ≡ no_entries journals.levels journals.limits
 nothing_first journals are =
     let number : length journals.servers ≡ 2 ^ journals.levels - 1 = (let one = are.one_each in omega (arith, one)) in
     let servers = each_none (λ n (es : List NodeEntry). take (times [] (parts.Server n)) es) 1 journals.servers (λ n es. take_none es) ∙ ap (λ (n : ℕ). replicate n []) number in

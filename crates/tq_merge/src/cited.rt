@@ -58,7 +58,7 @@ fn cited_in(alloc: Global, ask: &DeskAsk) -> Result<Vec<CitedVote>, Memory>
     match ask {
         DeskAsk::Commit { ops, votes, .. } => {
             // As many as where each voter granted one file, to read and then to write.
-            wanted.reserve(votes.len().saturating_mul(3))?;
+            wanted.reserve(votes.as_slice().len().saturating_mul(3))?;
             push_ops(&mut wanted, ops.as_slice())?;
             push_votes(&mut wanted, votes.as_slice())?;
         }

@@ -15,14 +15,14 @@ use Rattle.tq_desk.specs.DeskJournal.{DeskEntry, IsLegalDesk, step_reply, step_a
 use Rattle.tq_desk.specs.DeskStep as desk
 use Rattle.tq_live.specs.{Live.Live, View.{IsLegalView, view_state, view_reply, view_reply_at, view_after_at}}
 use Rattle.tq_live.proofs.Journal.{replays}
-use Rattle.tq_tables.proofs.{RowLaws.answered-push, Restood.{is_there, node_in-at, node_is}}
+use Rattle.tq_tables.{proofs.{RowLaws.answered-push, Restood.{is_there, node_in-at, node_is}}, specs.Tabled.journals_in}
 use Rattle.tq_tables.specs.Tables.{MayAskDesk, MayAskNode, node_in, entries_of, with_node, TablesView, tables_of}
-use Rattle.tq_tables.specs.{Journals.{JournalsView, ViewEntry, with_desk, with_view}, Tabled.journals_in}
+use Rattle.tq_tables.specs.Journals.{JournalsView, ViewEntry, with_desk, with_view, no_entries}
 use Rattle.tq_tables.specs.Parts.{AreLegal, AreLegalServers, bounds_of, node_after_all, desk_at, view_at}
 use Rattle.tq_mirror.specs.declared.{entries.Entries.Entries, fault.PullFault.PullFault}
-use Rattle.tq_mirror.specs.Prefixes.{GivesNext, IsForeign, IsPartOf, IsPullFault, IsTaken, count_of, nothing_pulled, prefix_length, server_prefix, journals_with, AreAhead, AreKept, AreLed}
-use Rattle.tq_mirror.specs.declared.entries.Entries.TheVariants as entries
+use Rattle.tq_mirror.specs.Prefixes.{GivesNext, IsForeign, IsPartOf, IsPullFault, IsTaken, count_of, prefix_length, server_prefix, journals_with, AreAhead, AreKept, AreLed}
 use Rattle.tq_mirror.proofs.Led.{Grows, Led, legal-joined, state-joined}
+use Rattle.tq_mirror.specs.declared.entries.Entries.TheVariants as entries
 
 -- ---- legal journals of servers
 
@@ -420,12 +420,12 @@ legal-none : (first count : ℕ) → AreLegalServers first (replicate count [])
 legal-none first zero = tt
 legal-none first (suc count) = (tt, legal-none (first + 1) count)
 
-pub opened_is : (tables : TablesView) (levels : ℕ) (limits : LimitsView) (prefixes : JournalsView) → prefixes ≡ nothing_pulled levels limits → tables ≡ tables_of (nothing_pulled levels limits)
-    → Stands tables prefixes (nothing_pulled levels limits)
+pub opened_is : (tables : TablesView) (levels : ℕ) (limits : LimitsView) (prefixes : JournalsView) → prefixes ≡ no_entries levels limits → tables ≡ tables_of (no_entries levels limits)
+    → Stands tables prefixes (no_entries levels limits)
 opened_is tables levels limits prefixes is stand =
     let positive : 0 < 2 ^ levels = pow_pos levels in
     let count : length (replicate {A = List NodeEntry} (2 ^ levels - 1) []) ≡ 2 ^ levels - 1 = length-replicate (2 ^ levels - 1) [] in
-    stands_at tables prefixes (nothing_pulled levels limits) is
+    stands_at tables prefixes (no_entries levels limits) is
     (record {
       one_each = omega arith;
       legal = record { servers = legal-none 1 (2 ^ levels - 1); desk = tt; view = tt };

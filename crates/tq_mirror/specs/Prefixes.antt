@@ -7,15 +7,11 @@ use Rattle.tq_asks.specs.declared.ask.NodeAsk.{NodeAsk}
 use Rattle.tq_node.specs.{Records.node_reply, Node.{NodeView, server_after}, NodeJournal.NodeEntry}
 use Rattle.tq_desk.specs.DeskJournal.{step_reply, step_after}
 use Rattle.tq_live.specs.View.{view_reply_at, view_after_at}
-use Rattle.tq_tables.specs.{Journals.{JournalsView, no_entries}, Parts.{node_after_all, desk_at, view_at, AreLegal}}
+use Rattle.tq_tables.specs.{Journals.JournalsView, Parts.{node_after_all, desk_at, view_at, AreLegal}}
 use Rattle.tq_tables.specs.{Tables.{TablesView, tables_of}, Same.Begins}
 use Rattle.tq_mirror.specs.declared.{entries.Entries.Entries, fault.PullFault.PullFault}
 use Rattle.tq_mirror.specs.declared.entries.Entries.TheVariants as entries
 use Rattle.tq_mirror.specs.declared.fault.PullFault.TheVariants as faults
-
--- nothing was pulled of any part of a system
-abbrev pub nothing_pulled : ℕ → LimitsView → JournalsView
-nothing_pulled levels limits = no_entries levels limits
 
 -- a system with a tree of so many levels has the part
 abbrev pub IsPartOf : ℕ → Part → Type 0

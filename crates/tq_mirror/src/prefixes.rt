@@ -2,8 +2,8 @@
 
 ghost use Rattle.std.specs.Prelude.{◌≡◌, ◌<◌, ◌^◌, ◌++◌, length, IfOk, OnOk, OnErr};
 ghost use Rattle.tq_shape.specs.Tree.{IsServer};
-ghost use Rattle.tq_tables.specs.{Parts.AreLegal, Tables.tables_of};
-ghost use Rattle.tq_mirror.specs.Prefixes.{AreKept, IsTaken, nothing_pulled, server_prefix};
+ghost use Rattle.tq_tables.specs.{Parts.AreLegal, Tables.tables_of, Journals.no_entries};
+ghost use Rattle.tq_mirror.specs.Prefixes.{AreKept, IsTaken, server_prefix};
 
 use crate::entries::Entries;
 use crate::fault::PullFault;
@@ -58,7 +58,7 @@ impl Model for Prefixes {
 impl Prefixes {
     /// Nothing was pulled. Answers an error only where memory is refused.
     pub fn new(alloc: Global, levels: Levels, limits: Limits) -> Result<Prefixes, Memory>
-        ensures { IfOk result (λ prefixes. prefixes ≡ nothing_pulled levels limits) }
+        ensures { IfOk result (λ prefixes. prefixes ≡ no_entries levels limits) }
     {
         let tabled = TabledJournals::new(alloc, levels, limits)?;
         Ok(Prefixes {

@@ -8,24 +8,23 @@ use Rattle.std.proofs.lemmas.Bool.{cases_Bool, cond-true, cond-false, false≢tr
 use Rattle.std.proofs.lemmas.Cmp.{tied_itself, nat_list_cmp_total}
 use Rattle.std.specs.FinMap as fin
 use Rattle.tq_shape.specs.Journal.{Has, is_empty, refuse, refuse_for, state_at}
+use Rattle.tq_shape.proofs.Places.{Some-same, find-Has, none-Has, any-Has, Has-any}
+use Rattle.tq_shape.proofs.Options.{none_of, some_of, map-none}
 use Rattle.tq_store.specs.{Copies.{name_cmp, copy_of, installed_all}, declared.write.Write.Write, Names.same_name}
+use Rattle.tq_store.proofs.Padded.{same_name-refl}
 use Rattle.tq_locks.specs.Locks.{LockKey, lock_cmp, conflicts, is_exclusive, blocks, blocker, held_of, holds_nothing, locks_after_release, only_stable}
 use Rattle.tq_locks.specs.declared.mode.{Lock.Lock, Mode.Mode, Mode.TheVariants.{Shared, Exclusive}}
 use Rattle.tq_locks.proofs.Found.{locks_total, locks_same, entry_of, first_passes, get-entry_of}
 use Rattle.tq_intents.specs.declared.record.{OpenVote.OpenVote, Record.Record}
 use Rattle.tq_asks.specs.declared.ask.{CitedVote.CitedVote, NodeAsk.NodeAsk, NodeRefusal.NodeRefusal, Verdict.Verdict}
 use Rattle.tq_asks.specs.declared.ask.{NodeAsk.TheVariants.{Work, Crash, Return, CrashIn}, NodeReply.NodeReply}
-use Rattle.tq_asks.specs.declared.ask.{Verdict.TheVariants.{Abort, Commit}, WorkAsk.WorkAsk}
-use Rattle.tq_asks.specs.Verdicts.{cites_vote}
+use Rattle.tq_asks.specs.{declared.ask.{Verdict.TheVariants.{Abort, Commit}, WorkAsk.WorkAsk}, Verdicts.cites_vote}
 use Rattle.tq_asks.specs.declared.ask.NodeRefusal.TheVariants as refusals
 use Rattle.tq_asks.specs.declared.ask.NodeReply.TheVariants as replies
 use Rattle.tq_asks.specs.declared.ask.WorkAsk.TheVariants as work
 use Rattle.tq_node.specs.Records.{Records, NodeState, has_vote, holds_exclusively, not_locked, are_good_writes, lock_refusal, prepare_refusal, release_refusal, work_refusal, refusal, open_vote, installs, work_reply, reply_of, work_after, records_after, answer_at, node_reply, node_after, kept_records, stop_writes}
 use Rattle.tq_node.specs.{Cases.{IsStep, IsUp, Holds, Blocks, Cites}, Node.{IsKept, NodeView, server_after}}
-use Rattle.tq_shape.proofs.Places.{Some-same, find-Has, none-Has, any-Has, Has-any}
-use Rattle.tq_shape.proofs.Options.{none_of, some_of, map-none}
 use Rattle.tq_node.proofs.KeptLocks.{kept_locks-stable, map-some, only_stable-twice}
-use Rattle.tq_store.proofs.Padded.{same_name-refl}
 
 -- ---- options and lists
 
@@ -184,9 +183,9 @@ cites_not (Commit votes) server number h k =
 abbrev StepAt : ℕ → List Record → Records → ℕ → NodeAsk → Option NodeRefusal → Type 0
 StepAt server list old number ask reason = IsStep server list old number ask (answer_at reason (reply_of server old ask)) (state_at reason old (records_after server (record { records = old; stable = list }) number ask))
 
-step_lock : (server : ℕ) (list : List Record) (old : Records) (number txn : ℕ) (file : List ℕ) (mode : Mode) → StepAt server list old number (Work (work.Lock txn file mode)) (work_refusal old (work.Lock txn file mode))
+step_lock : (server : ℕ) (list : List Record) (old : Records) (number txn : ℕ) (file : List ℕ) (mode : Mode) → StepAt server list old number (Work (work.Lock mode txn file)) (work_refusal old (work.Lock mode txn file))
 step_lock server list old number txn file mode =
-    let P = StepAt server list old number (Work (work.Lock txn file mode)) in
+    let P = StepAt server list old number (Work (work.Lock mode txn file)) in
     by_test P old.down refusals.Down _ (λ down. (down, refl)) (λ up.
     by_test P (has_vote old txn) refusals.Prepared _ (λ vote. ((up, vote), refl)) (λ no_vote.
     by_value P (blocker old.locks file txn mode) refusals.Held None
@@ -254,7 +253,7 @@ step_release server list old number txn =
     (λ some. (up, none, something_there (held_of old.locks txn) some, refl))))
 
 step_work : (server : ℕ) (list : List Record) (old : Records) (number : ℕ) (ask : WorkAsk) → StepAt server list old number (Work ask) (work_refusal old ask)
-step_work server list old number (work.Lock txn file mode) = step_lock server list old number txn file mode
+step_work server list old number (work.Lock mode txn file) = step_lock server list old number txn file mode
 step_work server list old number (work.Prepare txn writes) = step_prepare server list old number txn writes
 step_work server list old number (work.Decide txn verdict cite) = step_decide server list old number txn verdict cite
 step_work server list old number (work.Release txn) = step_release server list old number txn
@@ -304,7 +303,7 @@ stopped_is new list is k =
 
 -- after a crash the records are those that the stable list keeps
 pub crashed_is : (server : ℕ) (old new : NodeState) (number : ℕ) (ask : NodeAsk) → IsStep server old.stable old.records number ask replies.Crashed new.records → IsKept new → new.records ≡ kept_records new.stable
-crashed_is server old new number (Work (work.Lock t f m)) h k = absurd h
+crashed_is server old new number (Work (work.Lock m t f)) h k = absurd h
 crashed_is server old new number (Work (work.Prepare t w)) h k = absurd h
 crashed_is server old new number (Work (work.Decide t v c)) h k = absurd h
 crashed_is server old new number (Work (work.Release t)) h k = absurd h

@@ -5,10 +5,10 @@ use Rattle.tq_store.specs.{Copies.copy_of, declared.write.Write.Write}
 use Rattle.tq_locks.specs.{Locks.{Locks, conflicts, lock_after}, declared.mode.Lock.Lock, declared.mode.Mode.Mode}
 use Rattle.tq_locks.specs.declared.mode.Mode.TheVariants.{Exclusive}
 use Rattle.tq_intents.specs.declared.record.OpenVote.{OpenVote}
-use Rattle.tq_node.specs.{Records.Records, NodeJournal.{NodeEntry, inner, IsCited, HasWrite}}
+use Rattle.tq_node.specs.{Records.Records, NodeJournal.{NodeEntry, inner, HasWrite}}
 use Rattle.tq_node.specs.NodeLaws.{IsOwner, held_kept, is_refusal}
-use Rattle.tq_asks.specs.declared.ask.{CitedVote.CitedVote, HeldLock.HeldLock, NodeAsk.TheVariants.Work}
-use Rattle.tq_asks.specs.declared.ask.Verdict.{Verdict}
+use Rattle.tq_asks.specs.{Verdicts.IsCited, declared.ask.{CitedVote.CitedVote, HeldLock.HeldLock, Verdict.Verdict}}
+use Rattle.tq_asks.specs.declared.ask.NodeAsk.TheVariants.{Work}
 use Rattle.tq_asks.specs.declared.ask.NodeReply.TheVariants as replies
 use Rattle.tq_asks.specs.declared.ask.WorkAsk.TheVariants as work
 
@@ -21,7 +21,7 @@ pub record IsGrant (number : ℕ) (e : NodeEntry) (old new : Records) : Type 0 w
   pub txn : ℕ
   pub file : List ℕ
   pub mode : Mode
-  pub granted : e ≡ record { ask = Work (work.Lock txn file mode); reply = replies.Granted (copy_of old.copies file).version (copy_of old.copies file).content }
+  pub granted : e ≡ record { ask = Work (work.Lock mode txn file); reply = replies.Granted (copy_of old.copies file).version (copy_of old.copies file).content }
   pub free : (t : ℕ) (lock : Lock) → t ≢ txn → fin.get old.locks (file, t) ≡ Some lock → conflicts mode lock.mode ≡ false
   pub each : (f : List ℕ) (t : ℕ) (lock : Lock) → fin.get new.locks (f, t) ≡ Some lock
       → (fin.get old.locks (f, t) ≡ Some lock) ⊎ ((f ≡ file) × (t ≡ txn) × (lock ≡ lock_after (fin.get old.locks (f, t)) mode number (copy_of old.copies f).version))
@@ -47,7 +47,7 @@ IsRaised s e old file version content =
 
 abbrev pub Tells : NodeEntry → List ℕ → ℕ → List ℕ → Type 0
 Tells e file version content =
-    ((txn : ℕ) × (mode : Mode) × (e ≡ record { ask = Work (work.Lock txn file mode); reply = replies.Granted version content }))
+    ((txn : ℕ) × (mode : Mode) × (e ≡ record { ask = Work (work.Lock mode txn file); reply = replies.Granted version content }))
     ⊎ (e ≡ record { ask = Work (work.Peek file); reply = replies.Copy version content })
 
 pub record Frame (s number : ℕ) (e : NodeEntry) (old new : Records) : Type 0 where

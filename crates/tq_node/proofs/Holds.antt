@@ -8,11 +8,11 @@ use Rattle.tq_locks.specs.declared.mode.{Mode.Mode, Mode.TheVariants.{Shared, Ex
 use Rattle.tq_intents.specs.declared.record.OpenVote.{OpenVote}
 use Rattle.tq_node.specs.{Records.Records, NodeJournal.{NodeEntry, IsLegalNode, GrantAt}}
 use Rattle.tq_node.specs.NodeLaws.{IsOwner, IsSameHold, IsUnbroken, TakenAt}
+use Rattle.tq_node.proofs.{Frames.{AreAmong, IsGrant, Frame}, ServerLaws.{votes_own, taken_old}}
 use Rattle.tq_asks.specs.declared.ask.{NodeAsk.TheVariants.Work, Verdict.Verdict}
 use Rattle.tq_asks.specs.declared.ask.NodeReply.TheVariants as replies
 use Rattle.tq_asks.specs.declared.ask.WorkAsk.TheVariants as work
 use Rattle.tq_shape.proofs.Places.{at-old, at-new, at-bound}
-use Rattle.tq_node.proofs.{Frames.{AreAmong, IsGrant, Frame}, ServerLaws.{votes_own, taken_old}}
 
 stronger-itself : (a : Mode) → stronger a a ≡ a
 stronger-itself Shared = refl
@@ -78,7 +78,7 @@ module _ (s : ℕ) (state : List NodeEntry → Records)
 
   -- it begins
   begins : (e : NodeEntry) (K : List NodeEntry) (f : List ℕ) (t : ℕ) (m : Mode) (lock : Lock) → fin.get (state (e ∷ K)).locks (f, t) ≡ Some lock → fin.get (state K).locks (f, t) ≡ None
-      → e ≡ record { ask = Work (work.Lock t f m); reply = replies.Granted lock.version (copy_of (state K).copies f).content } → lock.since ≡ suc (length K)
+      → e ≡ record { ask = Work (work.Lock m t f); reply = replies.Granted lock.version (copy_of (state K).copies f).content } → lock.since ≡ suc (length K)
       → IsUnbroken (λ K. (state K).locks) (e ∷ K) f t lock
   begins e K f t m lock here none is number =
       record {
@@ -114,10 +114,10 @@ module _ (s : ℕ) (state : List NodeEntry → Records)
           → ((was : Lock) → fin.get (state K).locks (f, t) ≡ Some was → IsUnbroken (λ K. (state K).locks) K f t was) → IsUnbroken (λ K. (state K).locks) (e ∷ K) f t lock
       after g p q None o is ih =
           let version : lock.version ≡ (copy_of (state K).copies f).version = ap (λ (l : Lock). l.version) is in
-          let told : e ≡ record { ask = Work (work.Lock t f g.mode); reply = replies.Granted lock.version (copy_of (state K).copies f).content } =
+          let told : e ≡ record { ask = Work (work.Lock g.mode t f); reply = replies.Granted lock.version (copy_of (state K).copies f).content } =
           g.granted
-          ∙ (λ i. record { ask = Work (work.Lock (sym q i) (sym p i) g.mode); reply = replies.Granted (copy_of (state K).copies (sym p i)).version (copy_of (state K).copies (sym p i)).content })
-          ∙ (λ i. record { ask = Work (work.Lock t f g.mode); reply = replies.Granted (sym version i) (copy_of (state K).copies f).content }) in
+          ∙ (λ i. record { ask = Work (work.Lock g.mode (sym q i) (sym p i)); reply = replies.Granted (copy_of (state K).copies (sym p i)).version (copy_of (state K).copies (sym p i)).content })
+          ∙ (λ i. record { ask = Work (work.Lock g.mode t f); reply = replies.Granted (sym version i) (copy_of (state K).copies f).content }) in
           begins e K f t g.mode lock h o told (ap (λ (l : Lock). l.since) is)
       after g p q (Some was) o is ih =
           let grown : stronger was.mode lock.mode ≡ lock.mode =

@@ -2,13 +2,11 @@
 -- Copies that a server's step leaves.
 use Rattle.std.proofs.Common.{◌≡◌, ◌≢◌, Bool, true, false, cond, Option, Some, None, sym, ap, ◌∙◌, ◌⊎◌, inl, inr, ℕ, ◌≤◌, ◌<◌, List, [], ◌∷◌, refl, subst, arith, map}
 use Rattle.std.proofs.lemmas.Bool.{cases_Bool, cond-true, cond-false, true≢false, ltb-true, ltb-false, or_parts}
-use Rattle.std.proofs.lemmas.Cmp.{tied_itself, nat_list_cmp_total}
-use Rattle.std.specs.{Cmp.IsTotalOrder, Ordering.{is_eq, eq_by_cmp}, declared.cmp.Ordering.Ordering, Prelude.nat_lt}
+use Rattle.std.{proofs.lemmas.Cmp.{tied_itself, nat_list_cmp_total}, specs.{Cmp.IsTotalOrder, Prelude.nat_lt}}
+use Rattle.std.specs.{Ordering.{is_eq, eq_by_cmp}, declared.cmp.Ordering.Ordering, List.{AllByRecursion, list_any}}
 use Rattle.std.specs.FinMap.{FinMap, IsAntisymmetric, nat_cmp-IsAntisymmetric, slice_cmp-IsAntisymmetric}
-use Rattle.std.specs.List.{AllByRecursion, list_any}
 use Rattle.std.specs.FinMap as fin
-use Rattle.tq_shape.proofs.{Places.Some-same, Options.is_eq-Equal}
-use Rattle.tq_shape.specs.Journal.{Has}
+use Rattle.tq_shape.{proofs.{Places.Some-same, Options.is_eq-Equal}, specs.Journal.Has}
 use Rattle.tq_store.specs.Copies.{Files, name_cmp, copy_of, copy_in, copies_after_install, installed_all}
 use Rattle.tq_store.specs.{declared.copies.FileCopy.FileCopy, declared.write.Write.Write, Names.same_name}
 use Rattle.tq_store.proofs.Installed.{Installs-installed, rises-installed, rises-installed_all, rises_then}

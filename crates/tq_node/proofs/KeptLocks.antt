@@ -1,12 +1,11 @@
 -- The stable locks of a table are the locks of the open votes, after each change of either; and so the records keep them.
 use Rattle.std.specs.{Prelude.{◌==◌, not, ◌||◌}, Cmp.{nat_cmp_total, IsTotalOrder}, List.{AllByRecursion, flat_map}}
 use Rattle.std.specs.{FinMap.{FinMap, IsAntisymmetric, find, nat_cmp-IsAntisymmetric}, Ordering.eq_by_cmp}
-use Rattle.std.specs.{Option.{option_map, option_map_or}, declared.cmp.Ordering.Ordering}
+use Rattle.std.{specs.{Option.{option_map, option_map_or}, declared.cmp.Ordering.Ordering}, proofs.Math.Bool.or-false}
 use Rattle.std.proofs.Common.{◌≡◌, ◌≢◌, ℕ, Bool, true, false, List, [], ◌∷◌, ◌++◌, map, Option, Some, None, refl, sym, ap, subst, ◌∙◌, ◌⊎◌, inl, inr}
 use Rattle.std.proofs.lemmas.Bool.{cases_Bool, cond-true, cond-false, false≢true, eqb-true, ne_eqb, eq-eqb, cases_eq}
-use Rattle.std.proofs.Math.Bool.{or-false}
 use Rattle.std.specs.FinMap as fin
-use Rattle.tq_shape.specs.Journal.{Has}
+use Rattle.tq_shape.{specs.Journal.Has, proofs.Places.{Some-same, Has-map, map-Has, Has-append, Has-filter, filter-Has}}
 use Rattle.tq_store.specs.declared.write.Write.{Write}
 use Rattle.tq_locks.specs.Locks.{Locks, LockKey, lock_after, held_of, locks_after_grant, locks_after_release, only_stable, entry_after_keep, locks_after_keep}
 use Rattle.tq_locks.specs.declared.mode.{Lock.Lock, Mode.Mode}
@@ -14,7 +13,6 @@ use Rattle.tq_locks.proofs.{Found.{locks_total, locks_same, entry_of, get-entry_
 use Rattle.tq_intents.specs.Kept.{HasOneVoteEach, Votes, kept_locks, kept_votes, open_votes, stable_lock}
 use Rattle.tq_intents.specs.declared.record.{KeptLock.KeptLock, OpenVote.OpenVote, Record.Record}
 use Rattle.tq_node.specs.{Node.LocksIn, Records.kept_lock}
-use Rattle.tq_shape.proofs.Places.{Some-same, Has-map, map-Has, Has-append, Has-filter, filter-Has}
 use Rattle.tq_node.proofs.Installed.{key_cases, insert-same, insert-other, insert-cases, remove-other, remove-cases, retain-in, retain-from}
 
 -- ---- lists

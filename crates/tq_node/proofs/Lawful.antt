@@ -5,14 +5,14 @@ use Rattle.tq_locks.specs.Locks.{only_stable}
 use Rattle.tq_node.specs.NodeJournal.{NodeEntry, node_state, IsLegalNode, locks_after}
 use Rattle.tq_node.specs.Records.{NodeState, answer_at, node_after, node_reply, refusal, work_refusal, work_reply, Records}
 use Rattle.tq_node.specs.NodeLaws.{NodeLaws, LockLaws, VoteLaws, StableLaw, IsListOfHolds}
-use Rattle.tq_asks.specs.declared.ask.{NodeAsk.NodeAsk, NodeAsk.TheVariants.{Work, Crash, Return, CrashIn}}
-use Rattle.tq_asks.specs.declared.ask.{NodeRefusal.NodeRefusal, NodeReply.NodeReply, HeldLock.HeldLock}
-use Rattle.tq_asks.specs.declared.ask.NodeReply.TheVariants as replies
 use Rattle.tq_node.proofs.{Sound.{sound-crashed, sound-opening}, Frames.Frame, Holds.{unbroken, stand, rise}}
 use Rattle.tq_node.proofs.Recorded.{IsRecorded, recorded_same, recorded_table, work_recorded, recorded_kept}
 use Rattle.tq_node.proofs.StepFrames.{crash_frame, refused_frame, return_frame, work_frame, yes_held, held_of-each, all-held_of}
 use Rattle.tq_node.proofs.StopFrames.{stop_recorded, stop_step_frame}
 use Rattle.tq_node.proofs.ServerLaws.{finished_write_seen, told_origin, echoes, exclusion, base, votes_own, vote_entry, fate, copy_origin}
+use Rattle.tq_asks.specs.declared.ask.{NodeAsk.NodeAsk, NodeAsk.TheVariants.{Work, Crash, Return, CrashIn}}
+use Rattle.tq_asks.specs.declared.ask.{NodeRefusal.NodeRefusal, NodeReply.NodeReply, HeldLock.HeldLock}
+use Rattle.tq_asks.specs.declared.ask.NodeReply.TheVariants as replies
 use Rattle.tq_shape.specs.Journal.{state_at, Has}
 use Rattle.tq_store.specs.declared.write.Write.{Write}
 use Rattle.tq_asks.specs.declared.ask.WorkAsk.TheVariants as work

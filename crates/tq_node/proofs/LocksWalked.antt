@@ -2,15 +2,14 @@
 -- one for each write, it holds them all exclusively.
 use Rattle.std.proofs.Common.{◌≡◌, ℕ, List, [], ◌∷◌, map, refl, ap, ◌==◌, ◌&&◌, Bool, true, false, cond, not, length, Option, Some, None, sym, ◌∙◌, inl, inr}
 use Rattle.std.proofs.lemmas.Bool.{eq-eqb, eqb-true, false≢true}
+use Rattle.std.specs.{Cmp.Lexicographic.same_text, List.find, Option.{option_map, option_map_or}}
 use Rattle.tq_intents.specs.Sharing.{kept_each}
 use Rattle.tq_locks.specs.{Locks.{LockKey, is_exclusive, held_of, holds_nothing}, declared.mode.Lock.Lock}
-use Rattle.tq_node.specs.{Records.{held_lock, kept_lock, Records, holds_exclusively, not_locked}, Telling.all_held}
-use Rattle.std.specs.{Cmp.Lexicographic.same_text, List.find, Option.{option_map, option_map_or}}
-use Rattle.std.specs.FinMap as fin
-use Rattle.tq_shape.specs.Journal.{Has, is_empty}
-use Rattle.tq_shape.proofs.Places.{Has-filter, filter-Has}
-use Rattle.tq_store.specs.{Names.same_name, declared.write.Write.Write}
 use Rattle.tq_locks.proofs.Found.{locks_total, locks_same, entry_of, get-entry_of, none_some}
+use Rattle.tq_node.specs.{Records.{held_lock, kept_lock, Records, holds_exclusively, not_locked}, Telling.all_held}
+use Rattle.std.specs.FinMap as fin
+use Rattle.tq_shape.{specs.Journal.{Has, is_empty}, proofs.Places.{Has-filter, filter-Has}}
+use Rattle.tq_store.specs.{Names.same_name, declared.write.Write.Write}
 
 abbrev pub version_of : LockKey × Lock → ℕ
 version_of entry = entry.1.version

@@ -4,8 +4,7 @@ use Rattle.std.specs.{Option.{option_map, option_map_or, is_some}, declared.allo
 use Rattle.std.proofs.Common.{◌≡◌, ℕ, ◌≤◌, Bool, true, false, cond, List, [], ◌∷◌, ◌++◌, Option, Some, None, refl, sym, ap, ◌∙◌, inl, inr, arith}
 use Rattle.std.proofs.lemmas.Bool.{cases_Bool, cond-true, cond-false, le-leb, lt-leb}
 use Rattle.std.specs.FinMap as fin
-use Rattle.tq_store.specs.{Copies.{copy_of, installed_all}, declared.copies.FileCopy.FileCopy}
-use Rattle.tq_store.specs.declared.write.Write.{Write}
+use Rattle.tq_store.specs.{Copies.{copy_of, installed_all}, declared.{copies.FileCopy.FileCopy, write.Write.Write}}
 use Rattle.tq_locks.specs.Locks.{is_exclusive, blocker, locks_after_grant, held_of, holds_nothing, locks_after_release}
 use Rattle.tq_locks.specs.declared.mode.{Lock.Lock, Mode.Mode, Mode.TheVariants.Exclusive}
 use Rattle.tq_shape.specs.Journal.{is_empty, refuse, refuse_for, state_at}
@@ -129,17 +128,17 @@ own-answered : (server : ℕ) (list : List Record) (old : Records) (number : ℕ
 own-answered server list old number ask reply new e r n =
     (r ∙ sym (ap (λ (o : Option NodeRefusal). answer_at o (reply_of server old ask)) e), n ∙ sym (ap (λ (o : Option NodeRefusal). state_at o old (records_after server (record { records = old; stable = list }) number ask)) e))
 
-only_lock : (server : ℕ) (list : List Record) (old : Records) (number txn : ℕ) (file : List ℕ) (mode : Mode) (reply : NodeReply) (new : Records) → IsStep server list old number (Work (work.Lock txn file mode)) reply new → IsOwn server list old number (Work (work.Lock txn file mode)) reply new
+only_lock : (server : ℕ) (list : List Record) (old : Records) (number txn : ℕ) (file : List ℕ) (mode : Mode) (reply : NodeReply) (new : Records) → IsStep server list old number (Work (work.Lock mode txn file)) reply new → IsOwn server list old number (Work (work.Lock mode txn file)) reply new
 only_lock server list old number txn file mode (Refused refusals.Down) new h =
-    own-refused server list old number (Work (work.Lock txn file mode)) refusals.Down new (test-true old.down refusals.Down _ h.0) h.1
+    own-refused server list old number (Work (work.Lock mode txn file)) refusals.Down new (test-true old.down refusals.Down _ h.0) h.1
 only_lock server list old number txn file mode (Refused refusals.Prepared) new h =
-    own-refused server list old number (Work (work.Lock txn file mode)) refusals.Prepared new (test-false old.down refusals.Down _ h.0.0 ∙ test-true (has_vote old txn) refusals.Prepared _ h.0.1) h.1
+    own-refused server list old number (Work (work.Lock mode txn file)) refusals.Prepared new (test-false old.down refusals.Down _ h.0.0 ∙ test-true (has_vote old txn) refusals.Prepared _ h.0.1) h.1
 only_lock server list old number txn file mode (Refused (refusals.Held by)) new h =
-    own-refused server list old number (Work (work.Lock txn file mode)) (refusals.Held by) new
+    own-refused server list old number (Work (work.Lock mode txn file)) (refusals.Held by) new
     (test-false old.down refusals.Down _ h.0.0 ∙ test-false (has_vote old txn) refusals.Prepared _ (ap is_some h.0.1) ∙ value-some (blocker old.locks file txn mode) refusals.Held None by (blocker_of old txn file mode by h.0.2 h.0.3)) h.1
 only_lock server list old number txn file mode (Refused reason) new h = absurd h.0
 only_lock server list old number txn file mode (Granted version content) new h =
-    own-answered server list old number (Work (work.Lock txn file mode)) (Granted version content) new
+    own-answered server list old number (Work (work.Lock mode txn file)) (Granted version content) new
     (test-false old.down refusals.Down _ h.0 ∙ test-false (has_vote old txn) refusals.Prepared _ (ap is_some h.1) ∙ value-none (blocker old.locks file txn mode) refusals.Held None (nobody old txn file mode h.2))
     (ap (λ (copy : FileCopy). Granted copy.version copy.content) (sym h.3))
     (h.4 ∙ ap (λ (copy : FileCopy). record { copies = old.copies; locks = locks_after_grant old.locks file txn mode number copy.version; votes = old.votes; down = old.down }) (sym h.3))
@@ -237,7 +236,7 @@ only_refresh server list old number file version content from Refreshed new h =
 only_refresh server list old number file version content from reply new h = absurd h
 
 pub only_step : (server : ℕ) (list : List Record) (old : Records) (number : ℕ) (ask : NodeAsk) (reply : NodeReply) (new : Records) → IsStep server list old number ask reply new → IsOwn server list old number ask reply new
-only_step server list old number (Work (work.Lock txn file mode)) reply new h = only_lock server list old number txn file mode reply new h
+only_step server list old number (Work (work.Lock mode txn file)) reply new h = only_lock server list old number txn file mode reply new h
 only_step server list old number (Work (work.Prepare txn writes)) reply new h = only_prepare server list old number txn writes reply new h
 only_step server list old number (Work (work.Decide txn verdict cite)) reply new h = only_decide server list old number txn verdict cite reply new h
 only_step server list old number (Work (work.Release txn)) reply new h = only_release server list old number txn reply new h

@@ -1,7 +1,6 @@
 -- At all times the stable records of a server are those of its copies, its open votes and their locks.
-use Rattle.std.specs.{Prelude.not, Option.is_some}
+use Rattle.std.{specs.{Prelude.not, Option.is_some}, proofs.lemmas.List.append-nil}
 use Rattle.std.proofs.Common.{◌≡◌, ℕ, suc, ◌+◌, ◌≤◌, Bool, true, false, cond, List, [], ◌∷◌, ◌++◌, map, filter, Option, Some, None, refl, sym, ap, subst, ◌∙◌, arith, append_assoc}
-use Rattle.std.proofs.lemmas.List.{append-nil}
 use Rattle.std.specs.FinMap as fin
 use Rattle.tq_store.specs.{Copies.{Files, installed_all, is_newer}, declared.write.Write.Write}
 use Rattle.tq_locks.specs.Locks.{Locks, held_of, locks_after_release, only_stable}
@@ -11,12 +10,10 @@ use Rattle.tq_intents.proofs.Votes.{kept_votes-ended, kept_votes-given}
 use Rattle.tq_asks.specs.declared.ask.{NodeRefusal.NodeRefusal, WorkAsk.WorkAsk}
 use Rattle.tq_asks.specs.declared.ask.NodeRefusal.TheVariants as refusals
 use Rattle.tq_asks.specs.declared.ask.WorkAsk.TheVariants as work
-use Rattle.tq_node.specs.Node.{IsKept, IsSound}
+use Rattle.tq_node.{specs.Node.{IsKept, IsSound}, proofs.StepFrames.open_vote-is}
 use Rattle.tq_node.specs.Records.{Records, NodeState, has_vote, work_refusal, open_vote, installs, kept_lock, work_after, work_writes}
-use Rattle.tq_shape.specs.Journal.{refuse, refuse-none}
 use Rattle.tq_node.proofs.Sound.{above_greater, open_votes-copies, sound-later, sound-granted, sound-released, sound-copies, sound-newer, sound-prepared, sound-ended, sound-as, kept_is}
-use Rattle.tq_node.proofs.StepFrames.{open_vote-is}
-use Rattle.tq_shape.proofs.Options.{none_of, some_of}
+use Rattle.tq_shape.{specs.Journal.{refuse, refuse-none}, proofs.Options.{none_of, some_of}}
 
 pub record IsRecorded (last : ℕ) (st : NodeState) : Type 0 where
   pub sound : IsSound st.stable last st.records.copies st.records.locks
@@ -105,7 +102,7 @@ recorded_decide last st t true h is_open =
 
 pub work_recorded : (s last : ℕ) (st : NodeState) (a : WorkAsk) → IsRecorded last st → work_refusal st.records a ≡ None
     → IsRecorded (suc last) (record { records = work_after s st.records (suc last) a; stable = st.stable ++ work_writes s st.records (suc last) a })
-work_recorded s last st (work.Lock t f m) h none =
+work_recorded s last st (work.Lock m t f) h none =
     let closed = ap (λ (x : Votes). fin.get x t) (sym h.votes) ∙ no_vote st.records t _ none in
     recorded_table last st _ st.records.down h (sound-granted st.stable last st.records.copies st.records.locks h.sound f t m (suc last) _ closed)
 work_recorded s last st (work.Prepare t w) h none = recorded_vote s last st t w h (no_vote st.records t _ none)

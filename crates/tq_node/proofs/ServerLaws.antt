@@ -7,14 +7,13 @@ use Rattle.tq_locks.specs.{Locks.{conflicts, stronger, lock_after, HasNoConflict
 use Rattle.tq_locks.specs.declared.mode.{Mode.Mode, Mode.TheVariants.{Shared, Exclusive}}
 use Rattle.tq_intents.specs.{Kept.stable_lock, declared.record.KeptLock.KeptLock, declared.record.OpenVote.OpenVote}
 use Rattle.tq_node.specs.{Records.Records, NodeLaws.{HasOrigin, IsBase, held_kept, IsStanding, IsEnded, TakenAt}}
-use Rattle.tq_node.specs.NodeJournal.{NodeEntry, IsLegalNode, inner, IsCited, GrantAt, TellsAt, YesAt, InnerAt, DecisionAt, HasHeld, HasWrite}
-use Rattle.tq_asks.specs.declared.ask.{HeldLock.HeldLock, Verdict.Verdict, WorkAsk.WorkAsk, NodeAsk.NodeAsk}
-use Rattle.tq_asks.specs.declared.ask.NodeAsk.TheVariants.{Work}
+use Rattle.tq_node.specs.NodeJournal.{NodeEntry, IsLegalNode, inner, GrantAt, TellsAt, YesAt, InnerAt, DecisionAt, HasHeld, HasWrite}
+use Rattle.tq_node.proofs.Frames.{AreAmong, IsGrant, VotesOwn, IsRaised, Tells, Frame}
+use Rattle.tq_asks.specs.{Verdicts.IsCited, declared.ask.{HeldLock.HeldLock, Verdict.Verdict, WorkAsk.WorkAsk}}
+use Rattle.tq_asks.specs.declared.ask.NodeAsk.{NodeAsk, TheVariants.Work}
 use Rattle.tq_asks.specs.declared.ask.NodeReply.TheVariants as replies
 use Rattle.tq_asks.specs.declared.ask.WorkAsk.TheVariants as work
-use Rattle.tq_shape.specs.Journal.{Has}
-use Rattle.tq_shape.proofs.Places.{at-cases, at-old, at-new, at-bound, Has-map}
-use Rattle.tq_node.proofs.Frames.{AreAmong, IsGrant, VotesOwn, IsRaised, Tells, Frame}
+use Rattle.tq_shape.{specs.Journal.Has, proofs.Places.{at-cases, at-old, at-new, at-bound, Has-map}}
 
 -- ---- modes
 
@@ -251,7 +250,7 @@ module _ (s : ℕ) (state : List NodeEntry → Records)
       fresh g p q =
           elim (yes_cases e K n2 t2 h2 w2 y) [
             | inl new ↦
-                let u : Path NodeAsk (Work (work.Lock g.txn g.file g.mode)) (Work (work.Prepare t2 new.1.0)) = ap (λ (x : NodeEntry). x.ask) (sym g.granted ∙ new.1.1) in
+                let u : Path NodeAsk (Work (work.Lock g.mode g.txn g.file)) (Work (work.Prepare t2 new.1.0)) = ap (λ (x : NodeEntry). x.ask) (sym g.granted ∙ new.1.1) in
                 cc
             | inr old ↦
                 elim (fate K legal.1 n2 t2 h2 w2 old) [

@@ -5,18 +5,18 @@ use mathlib.Core.Bool.{true≢false}
 use Rattle.std.specs.FinMap as fin
 use Rattle.std.specs.{Cmp.nat_cmp_total, List.{list_any, filter_map, cons_option, AllByRecursion}}
 use Rattle.std.specs.{Option.{is_none, option_map_or}, Ordering.{nat_cmp, eq_by_cmp}}
+use Rattle.std.proofs.lemmas.{Bool.false≢true, List.append-nil}
 use Rattle.tq_intents.specs.Kept.{ends_vote, vote_of, opened_vote, open_votes, kept_votes, IsAbove, vote_at, AreDead, HasOneVoteEach, IsUnfinished, Votes, vote_records}
 use Rattle.tq_intents.specs.declared.record.{OpenVote.OpenVote, Record.Record}
 use Rattle.tq_intents.specs.declared.record.Record.TheVariants.{Copy, Intent, Keep, Prepared, Gone}
+use Rattle.tq_intents.proofs.CopiesPush.{installed_all-newer, kept_copies-others, kept_copies-push_copies, kept_copies-vote, open_votes-push_copies}
+use Rattle.tq_intents.proofs.DeadRecords.{dead_above, dead_copies, open_votes-dead}
+use Rattle.tq_intents.proofs.Votes.{HasOneVoteEach-ended, HasOneVoteEach-given, kept_votes-ended, kept_votes-given}
 pub use Rattle.tq_intents.proofs.DeadRecords.{above_append, above_copies, above_greater, above_vote}
-use Rattle.std.proofs.lemmas.{Bool.false≢true, List.append-nil}
 use Rattle.tq_store.specs.{Copies.{Files, installed_all, is_newer}, declared.write.Write.Write}
 use Rattle.tq_locks.specs.Locks.{Locks, locks_after_ask, blocker, held_of, locks_after_grant, locks_after_release, only_stable, locks_after_keep}
 use Rattle.tq_locks.specs.declared.mode.Mode.{Mode}
 use Rattle.tq_shape.specs.Journal.{state_at}
-use Rattle.tq_intents.proofs.CopiesPush.{installed_all-newer, kept_copies-others, kept_copies-push_copies, kept_copies-vote, open_votes-push_copies}
-use Rattle.tq_intents.proofs.DeadRecords.{dead_above, dead_copies, open_votes-dead}
-use Rattle.tq_intents.proofs.Votes.{HasOneVoteEach-ended, HasOneVoteEach-given, kept_votes-ended, kept_votes-given}
 use Rattle.tq_node.specs.{Node.{IsKept, IsSound, LocksIn, NodeView}, NodeChanges.{server_at_stop, server_after_step}}
 use Rattle.tq_node.specs.{declared.change.NodeStep.TheVariants.Crash, Records.kept_lock}
 use Rattle.tq_node.proofs.KeptLocks.{kept_locks-is, locks-crashed, locks-decided, locks-granted, locks-none, locks-prepared, locks-released}

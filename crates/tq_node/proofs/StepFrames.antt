@@ -5,28 +5,26 @@ use Rattle.std.proofs.Common.{◌≡◌, ◌≢◌, ℕ, ◌≤◌, ◌<◌, Boo
 use Rattle.std.proofs.lemmas.Bool.{cases_Bool, cond-true, false≢true, true≢false, and_from, eqb-true, ne_eqb, eq-eqb}
 use Rattle.std.specs.FinMap as fin
 use Rattle.tq_store.specs.{Copies.{Files, copy_of, installed_all}, declared.copies.FileCopy.FileCopy}
-use Rattle.tq_store.specs.declared.write.Write.{Write}
+use Rattle.tq_store.{specs.declared.write.Write.Write, proofs.Padded.same_name-refl}
 use Rattle.tq_locks.specs.Locks.{Locks, LockKey, conflicts, is_exclusive, lock_after, blocks, blocker, locks_after_grant, held_of, holds_nothing, locks_after_release, entry_after_keep, locks_after_keep}
 use Rattle.tq_locks.specs.declared.mode.{Lock.Lock, Mode.Mode, Mode.TheVariants.{Shared, Exclusive}}
 use Rattle.tq_locks.proofs.{Found.{locks_total, locks_same, entry_of, get-entry_of}, Locked.get-kept}
-use Rattle.tq_intents.specs.{Kept.{Votes, stable_lock}, declared.record.KeptLock.KeptLock}
-use Rattle.tq_intents.specs.declared.record.OpenVote.{OpenVote}
+use Rattle.tq_intents.specs.{Kept.{Votes, stable_lock}, declared.record.{KeptLock.KeptLock, OpenVote.OpenVote}}
 use Rattle.tq_node.specs.Records.{Records, has_vote, holds_exclusively, not_locked, are_good_writes, work_refusal, open_vote, installs, held_lock, kept_lock, work_reply, work_after, records_after_crash, answer_at}
-use Rattle.tq_node.specs.NodeJournal.{NodeEntry, node_state, IsLegalNode, IsCited, HasWrite}
+use Rattle.tq_node.specs.NodeJournal.{NodeEntry, node_state, IsLegalNode, HasWrite}
 use Rattle.tq_node.specs.NodeLaws.{IsOwner, held_kept, is_refusal}
-use Rattle.tq_shape.specs.Journal.{refuse, refuse_for, refuse-none, refuse_for-none, Has}
-use Rattle.tq_asks.specs.declared.ask.{CitedVote.CitedVote, HeldLock.HeldLock, NodeAsk.NodeAsk, NodeRefusal.NodeRefusal}
-use Rattle.tq_asks.specs.declared.ask.{NodeAsk.TheVariants.{Work, Crash, Return}, NodeReply.NodeReply, Verdict.Verdict}
-use Rattle.tq_asks.specs.declared.ask.WorkAsk.{WorkAsk}
-use Rattle.tq_asks.specs.declared.ask.NodeRefusal.TheVariants as refusals
-use Rattle.tq_asks.specs.declared.ask.NodeReply.TheVariants as replies
-use Rattle.tq_asks.specs.declared.ask.WorkAsk.TheVariants as work
-use Rattle.tq_shape.proofs.Places.{none-Has, Has-map, map-Has, Has-filter, filter-Has}
-use Rattle.tq_shape.proofs.Options.{none_of, some_of, map-none}
 use Rattle.tq_node.proofs.Frames.{AreAmong, IsYes, IsRaised, Tells, Frame}
 use Rattle.tq_node.proofs.Installed.{insert-same, insert-other, insert-cases, remove-other, remove-cases, retain-from, installed-cases, all-low, all-cases}
 use Rattle.tq_node.proofs.KeptLocks.{map-some, stabled, stabled-own, stabled-other, get-own, released-other, only_stable-in}
-use Rattle.tq_store.proofs.Padded.{same_name-refl}
+use Rattle.tq_asks.specs.{Verdicts.IsCited, declared.ask.{CitedVote.CitedVote, HeldLock.HeldLock, NodeAsk.NodeAsk}}
+use Rattle.tq_asks.specs.declared.ask.{NodeRefusal.NodeRefusal, NodeAsk.TheVariants.{Work, Crash, Return}}
+use Rattle.tq_asks.specs.declared.ask.{NodeReply.NodeReply, Verdict.Verdict, WorkAsk.WorkAsk}
+use Rattle.tq_shape.specs.Journal.{refuse, refuse_for, refuse-none, refuse_for-none, Has}
+use Rattle.tq_shape.proofs.Places.{none-Has, Has-map, map-Has, Has-filter, filter-Has}
+use Rattle.tq_shape.proofs.Options.{none_of, some_of, map-none}
+use Rattle.tq_asks.specs.declared.ask.NodeRefusal.TheVariants as refusals
+use Rattle.tq_asks.specs.declared.ask.NodeReply.TheVariants as replies
+use Rattle.tq_asks.specs.declared.ask.WorkAsk.TheVariants as work
 
 exclusive_mode : (m : Mode) → is_exclusive m ≡ true → m ≡ Exclusive
 exclusive_mode Exclusive h = refl
@@ -49,7 +47,7 @@ is_prepare (Work (work.Prepare t w)) = true
 is_prepare other = false
 
 abbrev pub is_telling : NodeAsk → Bool
-is_telling (Work (work.Lock t f m)) = true
+is_telling (Work (work.Lock m t f)) = true
 is_telling (Work (work.Peek f)) = true
 is_telling other = false
 
@@ -120,11 +118,11 @@ calm_frame s n e old new p q left votes copies stays =
 -- ---- Lock
 
 lock_frame : (s n : ℕ) (old : Records) (t : ℕ) (f : List ℕ) (m : Mode) (r : NodeReply)
-    → work_refusal old (work.Lock t f m) ≡ None → r ≡ work_reply s old (work.Lock t f m)
-    → Frame s n (record { ask = Work (work.Lock t f m); reply = r }) old (work_after s old n (work.Lock t f m))
+    → work_refusal old (work.Lock m t f) ≡ None → r ≡ work_reply s old (work.Lock m t f)
+    → Frame s n (record { ask = Work (work.Lock m t f); reply = r }) old (work_after s old n (work.Lock m t f))
 lock_frame s n old t f m r none reply =
     record {
-      locks = inr (record { txn = t; file = f; mode = m; granted = λ i. record { ask = Work (work.Lock t f m); reply = reply i }; free = free; each = each });
+      locks = inr (record { txn = t; file = f; mode = m; granted = λ i. record { ask = Work (work.Lock m t f); reply = reply i }; free = free; each = each });
       came = λ u vote h. inl h;
       went = λ u vote h. inl h;
       yes_of = no_yes s n _ old _ plain;
@@ -138,7 +136,7 @@ lock_frame s n old t f m r none reply =
       tells = told;
     }
   where
-    plain : is_prepare (Work (work.Lock t f m)) ≡ false
+    plain : is_prepare (Work (work.Lock m t f)) ≡ false
     plain = refl
 
     parts : (has_vote old t ≡ false) × (refuse_for (blocker old.locks f t m) refusals.Held None ≡ None)
@@ -168,15 +166,15 @@ lock_frame s n old t f m r none reply =
           | inr p ↦ inl p.1
         ]
 
-    told : (g : List ℕ) (v : ℕ) (c : List ℕ) → Tells (record { ask = Work (work.Lock t f m); reply = r }) g v c → copy_of old.copies g ≡ record { version = v; content = c }
+    told : (g : List ℕ) (v : ℕ) (c : List ℕ) → Tells (record { ask = Work (work.Lock m t f); reply = r }) g v c → copy_of old.copies g ≡ record { version = v; content = c }
     told g v c (inl q) =
-        let a : Path NodeAsk (Work (work.Lock t f m)) (Work (work.Lock q.0 g q.1)) = ap (λ (x : NodeEntry). x.ask) q.2 in
+        let a : Path NodeAsk (Work (work.Lock m t f)) (Work (work.Lock q.1 q.0 g)) = ap (λ (x : NodeEntry). x.ask) q.2 in
         let b : Path NodeReply (replies.Granted (copy_of old.copies f).version (copy_of old.copies f).content) (replies.Granted v c) = sym reply ∙ ap (λ (x : NodeEntry). x.reply) q.2 in
         let fe : f ≡ g = cc in
         let ve : (copy_of old.copies f).version ≡ v = cc in
         let ce : (copy_of old.copies f).content ≡ c = cc in
         ap (copy_of old.copies) (sym fe) ∙ (λ i. record { version = ve i; content = ce i })
-    told g v c (inr q) = let a : Path NodeAsk (Work (work.Lock t f m)) (Work (work.Peek g)) = ap (λ (x : NodeEntry). x.ask) q in absurd cc
+    told g v c (inr q) = let a : Path NodeAsk (Work (work.Lock m t f)) (Work (work.Peek g)) = ap (λ (x : NodeEntry). x.ask) q in absurd cc
 
 -- ---- Prepare
 
@@ -396,7 +394,7 @@ peek_frame s n old f r reply =
     plain = refl
 
     told : (g : List ℕ) (v : ℕ) (c : List ℕ) → Tells (record { ask = Work (work.Peek f); reply = r }) g v c → copy_of old.copies g ≡ record { version = v; content = c }
-    told g v c (inl q) = let a : Path NodeAsk (Work (work.Peek f)) (Work (work.Lock q.0 g q.1)) = ap (λ (x : NodeEntry). x.ask) q.2 in absurd cc
+    told g v c (inl q) = let a : Path NodeAsk (Work (work.Peek f)) (Work (work.Lock q.1 q.0 g)) = ap (λ (x : NodeEntry). x.ask) q.2 in absurd cc
     told g v c (inr q) =
         let a : Path NodeAsk (Work (work.Peek f)) (Work (work.Peek g)) = ap (λ (x : NodeEntry). x.ask) q in
         let b : Path NodeReply (replies.Copy (copy_of old.copies f).version (copy_of old.copies f).content) (replies.Copy v c) = sym reply ∙ ap (λ (x : NodeEntry). x.reply) q in
@@ -459,7 +457,7 @@ return_frame s n old r = calm_frame s n _ old _ plain quiet (λ f t lock h. h) r
 -- ---- work that isn't refused
 
 pub work_frame : (s n : ℕ) (old : Records) (ask : WorkAsk) (r : NodeReply) → work_refusal old ask ≡ None → r ≡ work_reply s old ask → Frame s n (record { ask = Work ask; reply = r }) old (work_after s old n ask)
-work_frame s n old (work.Lock t f m) r none reply = lock_frame s n old t f m r none reply
+work_frame s n old (work.Lock m t f) r none reply = lock_frame s n old t f m r none reply
 work_frame s n old (work.Prepare t w) r none reply = prepare_frame s n old t w r none reply
 work_frame s n old (work.Decide t verdict k) r none reply = decide_frame s n old t verdict k r none reply
 work_frame s n old (work.Release t) r none reply = release_frame s n old t r none

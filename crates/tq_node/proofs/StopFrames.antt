@@ -1,31 +1,27 @@
 -- What a server leaves that stops in the midst of an ask, after some of its records.
-use Rattle.std.specs.{Prelude.take, Option.option_map_or}
+use Rattle.std.{specs.{Prelude.take, Option.option_map_or}, proofs.lemmas.Bool.{true≢false, eq-eqb}}
 use Rattle.std.proofs.Common.{◌≡◌, ℕ, suc, zero, ◌+◌, Bool, true, false, cond, List, [], ◌∷◌, ◌++◌, map, filter, Option, Some, None, refl, sym, ap, subst, ◌∙◌, ◌⊎◌, inl, inr, arith, append_assoc}
-use Rattle.std.proofs.lemmas.Bool.{true≢false, eq-eqb}
 use Rattle.std.specs.FinMap as fin
-use Rattle.tq_shape.specs.Journal.{Has, state_at}
-use Rattle.tq_shape.proofs.Places.{Has-map, Has-append, Has-filter}
+use Rattle.tq_shape.{specs.Journal.{Has, state_at}, proofs.Places.{Has-map, Has-append, Has-filter}}
 use Rattle.tq_store.specs.{Copies.{copy_of, installed_all, is_newer}, declared.write.Write.Write}
-use Rattle.tq_locks.specs.{Locks.{Locks, LockKey, held_of, only_stable}, declared.mode.Lock.Lock}
-use Rattle.tq_locks.specs.declared.mode.Mode.{Mode}
+use Rattle.tq_locks.specs.{Locks.{Locks, LockKey, held_of, only_stable}, declared.mode.{Lock.Lock, Mode.Mode}}
 use Rattle.tq_locks.proofs.Found.{locks_total, locks_same}
 use Rattle.tq_intents.specs.declared.record.{KeptLock.KeptLock, OpenVote.OpenVote, Record.Record}
 use Rattle.tq_intents.specs.declared.record.Record.TheVariants.{Copy, Intent, Keep, Prepared, Gone}
-use Rattle.tq_intents.specs.Kept.{is_dead, AreDead}
+use Rattle.tq_intents.{specs.Kept.{is_dead, AreDead}, proofs.DeadRecords.kept_votes-dead}
 use Rattle.tq_asks.specs.declared.ask.{NodeAsk.TheVariants.{Work, CrashIn}, NodeRefusal.NodeRefusal, Verdict.Verdict}
-use Rattle.tq_asks.specs.declared.ask.WorkAsk.{WorkAsk}
+use Rattle.tq_asks.specs.{declared.ask.WorkAsk.WorkAsk, Verdicts.IsCited}
 use Rattle.tq_asks.specs.declared.ask.NodeReply.TheVariants as replies
 use Rattle.tq_asks.specs.declared.ask.WorkAsk.TheVariants as work
-use Rattle.tq_node.specs.{NodeJournal.{NodeEntry, inner, IsCited}, NodeLaws.is_refusal}
+use Rattle.tq_node.specs.{NodeJournal.{NodeEntry, inner}, NodeLaws.is_refusal}
 use Rattle.tq_node.specs.Records.{Records, NodeState, work_refusal, open_vote, installs, kept_lock, work_reply, work_after, work_writes, records_after_crash, records_after, stop_writes}
 use Rattle.tq_node.proofs.{Installed.{retain-from, all-cases}, KeptLocks.only_stable-in, Frames.{IsRaised, Frame}}
 use Rattle.tq_node.proofs.Sound.{above_greater, sound-crashed, sound-dead}
 use Rattle.tq_node.proofs.StepFrames.{work_frame, calm_frame, owner_stays, left_retained, among_retained, is_prepare, is_telling, no_yes, no_tell}
 use Rattle.tq_node.proofs.Recorded.{IsRecorded, recorded_kept, recorded_copies, work_recorded, the_vote}
-use Rattle.tq_intents.proofs.DeadRecords.{kept_votes-dead}
 
 abbrev pub is_lock : WorkAsk → Bool
-is_lock (work.Lock t f m) = true
+is_lock (work.Lock m t f) = true
 is_lock other = false
 
 -- a Decide that was stopped after some of its copies
@@ -93,9 +89,9 @@ stop_frame s n old new ask e at plain quiet taken (inr (inl is)) =
           tells = no_tell e old quiet;
         }
       where
-        not_lock : (t : ℕ) (f : List ℕ) (m : Mode) → Work ask ≡ Work (work.Lock t f m) → ⊥
+        not_lock : (t : ℕ) (f : List ℕ) (m : Mode) → Work ask ≡ Work (work.Lock m t f) → ⊥
         not_lock t f m q =
-            let a : ask ≡ work.Lock t f m = cc in
+            let a : ask ≡ work.Lock m t f = cc in
             true≢false (ap is_lock (sym a) ∙ is.1)
 
         raised : (f : List ℕ) → IsRaised s (record { ask = Work ask; reply = work_reply s old ask }) old f (copy_of (work_after s old n ask).copies f).version (copy_of (work_after s old n ask).copies f).content
@@ -209,7 +205,7 @@ both_dead t n w ks r h =
     ]
 
 mid_work : (s last : ℕ) (st : NodeState) (a : WorkAsk) (k : ℕ) → IsRecorded last st → work_refusal st.records a ≡ None → IsMid s last st a (take k (work_writes s st.records (suc last) a))
-mid_work s last st (work.Lock t f m) k h none = mid_moved s last st _ _ [] (take-empty k) (mid_same s last st _ h)
+mid_work s last st (work.Lock m t f) k h none = mid_moved s last st _ _ [] (take-empty k) (mid_same s last st _ h)
 mid_work s last st (work.Release t) k h none = mid_moved s last st _ _ [] (take-empty k) (mid_same s last st _ h)
 mid_work s last st (work.Peek f) k h none = mid_moved s last st _ _ [] (take-empty k) (mid_same s last st _ h)
 mid_work s last st (work.Refresh f v c from) k h none =

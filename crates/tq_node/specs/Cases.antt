@@ -40,8 +40,8 @@ IsUp old = old.down ≡ false
 -- the ask is refused for this reason, and for none that stands before it
 abbrev pub IsRefused : Records → NodeAsk → NodeRefusal → Type 0
 IsRefused old (Work ask) Down = old.down ≡ true
-IsRefused old (Work (LockAsk txn file mode)) Prepared = IsUp old × IsSome (fin.get old.votes txn)
-IsRefused old (Work (LockAsk txn file mode)) (Held by) = IsUp old × HasNoVote old txn × Blocks old txn file mode by × ((t : ℕ) → Blocks old txn file mode t → by ≤ t)
+IsRefused old (Work (LockAsk mode txn file)) Prepared = IsUp old × IsSome (fin.get old.votes txn)
+IsRefused old (Work (LockAsk mode txn file)) (Held by) = IsUp old × HasNoVote old txn × Blocks old txn file mode by × ((t : ℕ) → Blocks old txn file mode t → by ≤ t)
 IsRefused old (Work (Prepare txn writes)) Prepared = IsUp old × IsSome (fin.get old.votes txn)
 IsRefused old (Work (Prepare txn writes)) BadWrites = IsUp old × HasNoVote old txn × (are_good_writes writes ≡ false)
 IsRefused old (Work (Prepare txn writes)) (NotLocked file) = IsUp old × HasNoVote old txn × (are_good_writes writes ≡ true)
@@ -64,7 +64,7 @@ Cites (Commit votes) server number = Has votes (record { server = server; number
 -- a server's step: stable records, records, number, ask, reply and the records after
 abbrev pub IsStep : ℕ → List Record → Records → ℕ → NodeAsk → NodeReply → Records → Type 0
 IsStep server list old number ask (Refused reason) new = IsRefused old ask reason × (new ≡ old)
-IsStep server list old number (Work (LockAsk txn file mode)) (Granted version content) new =
+IsStep server list old number (Work (LockAsk mode txn file)) (Granted version content) new =
     IsUp old × HasNoVote old txn × ((t : ℕ) → ¬ Blocks old txn file mode t)
     × (copy_of old.copies file ≡ record { version = version; content = content })
     × (new ≡ record old { locks = locks_after_grant old.locks file txn mode number version })

@@ -5,16 +5,14 @@ use Rattle.std.specs.FinMap as fin
 use Rattle.tq_store.specs.{declared.write.Write.Write, Copies.{copy_of, copies_after_install, installed_all, is_newer}}
 use Rattle.tq_locks.specs.declared.mode.Mode.{Mode}
 use Rattle.tq_locks.specs.Locks.{blocker, locks_after_grant, held_of, locks_after_release, locks_after_keep as stabilised_locks}
-use Rattle.tq_intents.specs.{Kept.{AreDead, vote_records}, declared.record.KeptLock.KeptLock}
-use Rattle.tq_intents.specs.declared.record.Record.{Record}
+use Rattle.tq_intents.specs.{Kept.{AreDead, vote_records}, declared.record.{KeptLock.KeptLock, Record.Record}}
 use Rattle.tq_intents.specs.declared.record.Record.TheVariants as stable
 use Rattle.tq_asks.specs.declared.ask.{NodeAsk.NodeAsk, WorkAsk.WorkAsk, NodeReply.NodeReply, Verdict.Verdict}
 use Rattle.tq_asks.specs.declared.ask.NodeAsk.TheVariants as asks
 use Rattle.tq_asks.specs.declared.ask.WorkAsk.TheVariants as work
-use Rattle.tq_node.specs.declared.change.{NodeChange.NodeChange, NodeStep.NodeStep}
+use Rattle.tq_node.specs.{declared.change.{NodeChange.NodeChange, NodeStep.NodeStep}, Node.{NodeView, with_last}}
 use Rattle.tq_node.specs.declared.change.NodeStep.TheVariants.{Nothing, Lock, Vote, Discard, Install, Release, Refresh, Unfinished, Copies, Crash, Return}
 use Rattle.tq_node.specs.Records.{Records, NodeState, records_after_crash, kept_lock, kept_records, open_vote, installs, newer_writes, refusal, work_refusal, work_reply}
-use Rattle.tq_node.specs.Node.{NodeView, with_last}
 use Rattle.tq_shape.specs.{Journal.state_at, declared.answers.Plan.Plan}
 use Rattle.tq_asks.specs.declared.ask.NodeReply.TheVariants as replies
 use Rattle.tq_node.specs.declared.change.NodeStep.TheVariants as steps
@@ -42,7 +40,7 @@ end_step old txn true = Install txn (open_vote old txn).number (open_vote old tx
 end_step old txn false = Discard txn (open_vote old txn).number
 
 abbrev pub work_step : ℕ → Records → ℕ → WorkAsk → NodeStep
-work_step server old number (work.Lock txn file mode) = Lock txn file mode (copy_of old.copies file).version
+work_step server old number (work.Lock mode txn file) = Lock txn file mode (copy_of old.copies file).version
 work_step server old number (work.Prepare txn writes) = Vote txn (record { number = number; writes = writes; locks = map kept_lock (held_of old.locks txn) })
 work_step server old number (work.Decide txn verdict cite) = end_step old txn (installs server old txn verdict)
 work_step server old number (work.Release txn) = Release txn

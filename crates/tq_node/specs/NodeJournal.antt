@@ -6,7 +6,7 @@ use Rattle.tq_store.specs.{Copies.Files, declared.write.Write.Write}
 use Rattle.tq_locks.specs.{Locks.Locks, declared.mode.Mode.Mode}
 use Rattle.tq_intents.specs.Kept.{Votes}
 use Rattle.tq_asks.specs.declared.ask.{HeldLock.HeldLock, NodeAsk.NodeAsk, NodeReply.NodeReply, Verdict.Verdict}
-use Rattle.tq_asks.specs.{declared.ask.WorkAsk.WorkAsk, Verdicts.cites_vote}
+use Rattle.tq_asks.specs.declared.ask.WorkAsk.{WorkAsk}
 use Rattle.tq_asks.specs.declared.ask.NodeAsk.TheVariants as asks
 use Rattle.tq_asks.specs.declared.ask.NodeReply.TheVariants as replies
 use Rattle.tq_asks.specs.declared.ask.WorkAsk.TheVariants as work
@@ -43,16 +43,12 @@ inner asks.Crash = None
 inner asks.Return = None
 inner (asks.CrashIn after ask) = Some ask
 
--- the verdict is Commit, and its list has the vote
-abbrev pub IsCited : Verdict → ℕ → ℕ → Type 0
-IsCited verdict server number = cites_vote verdict server number ≡ true
-
 -- ---- what the entry of a number says
 
 -- it granted the lock, and told the copy
 abbrev pub GrantAt : List NodeEntry → ℕ → ℕ → List ℕ → Mode → ℕ → List ℕ → Type 0
 GrantAt journal number txn file mode version content =
-    entry_at journal number ≡ Some (record { ask = asks.Work (work.Lock txn file mode); reply = replies.Granted version content })
+    entry_at journal number ≡ Some (record { ask = asks.Work (work.Lock mode txn file); reply = replies.Granted version content })
 
 -- it answered a peek with the copy
 abbrev pub PeekAt : List NodeEntry → ℕ → List ℕ → ℕ → List ℕ → Type 0

@@ -5,14 +5,14 @@ use Rattle.tq_shape.specs.Journal.{Has, entry_at}
 use Rattle.tq_store.specs.{Copies.{Files, copy_of}, declared.write.Write.Write}
 use Rattle.tq_locks.specs.{Locks.{Locks, stronger, HasNoConflict}, declared.mode.Lock.Lock, declared.mode.Mode.Mode}
 use Rattle.tq_locks.specs.declared.mode.Mode.TheVariants.{Exclusive}
-use Rattle.tq_intents.specs.{Kept.{Votes, stable_lock}, declared.record.KeptLock.KeptLock}
-use Rattle.tq_intents.specs.declared.record.OpenVote.{OpenVote}
+use Rattle.tq_intents.specs.{Kept.{Votes, stable_lock}, declared.record.{KeptLock.KeptLock, OpenVote.OpenVote}}
 use Rattle.tq_asks.specs.declared.ask.{CitedVote.CitedVote, HeldLock.HeldLock, NodeReply.NodeReply, Verdict.Verdict}
+use Rattle.tq_asks.specs.Verdicts.{IsCited}
 use Rattle.tq_asks.specs.declared.ask.NodeAsk.TheVariants as asks
 use Rattle.tq_asks.specs.declared.ask.NodeReply.TheVariants as replies
 use Rattle.tq_asks.specs.declared.ask.WorkAsk.TheVariants as work
 use Rattle.tq_node.specs.Node.{IsKept}
-use Rattle.tq_node.specs.NodeJournal.{NodeEntry, IsLegalNode, inner, node_state, copies_after, locks_after, votes_after, IsCited, GrantAt, TellsAt, YesAt, InnerAt, DecisionAt, HasHeld, HasWrite}
+use Rattle.tq_node.specs.NodeJournal.{NodeEntry, IsLegalNode, inner, node_state, copies_after, locks_after, votes_after, GrantAt, TellsAt, YesAt, InnerAt, DecisionAt, HasHeld, HasWrite}
 
 -- ---- a decision that counts
 

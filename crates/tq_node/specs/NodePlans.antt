@@ -34,7 +34,7 @@ end_fits old number txn true open_vote = (open_vote, (refl, (refl, refl)))
 end_fits old number txn false open_vote = (open_vote, refl)
 
 work_fits : (server : ℕ) (old : Records) (number : ℕ) (ask : WorkAsk) → work_refusal old ask ≡ None → StepFits old number (work_step server old number ask)
-work_fits server old number (work.Lock txn file mode) h =
+work_fits server old number (work.Lock mode txn file) h =
     let up = refuse-none old.down refusals.Down _ h in
     let vote = refuse-none (has_vote old txn) refusals.Prepared _ up.1 in
     (no_vote (fin.get old.votes txn) vote.0, (refuse_for-none (blocker old.locks file txn mode) refusals.Held None vote.1).0)
@@ -129,7 +129,7 @@ end_writes old txn true = refl
 end_writes old txn false = refl
 
 work_lead : (server : ℕ) (old : Records) (number : ℕ) (ask : WorkAsk) → records_after_step old number (work_step server old number ask) ≡ work_after server old number ask
-work_lead server old number (work.Lock txn file mode) = refl
+work_lead server old number (work.Lock mode txn file) = refl
 work_lead server old number (work.Prepare txn writes) = refl
 work_lead server old number (work.Decide txn verdict cite) = end_records old number txn (installs server old txn verdict)
 work_lead server old number (work.Release txn) = refl
@@ -137,7 +137,7 @@ work_lead server old number (work.Peek file) = refl
 work_lead server old number (work.Refresh file version content from) = refl
 
 work_writes_lead : (server : ℕ) (old : Records) (number : ℕ) (ask : WorkAsk) → records_of (work_step server old number ask) ≡ work_writes server old number ask
-work_writes_lead server old number (work.Lock txn file mode) = refl
+work_writes_lead server old number (work.Lock mode txn file) = refl
 work_writes_lead server old number (work.Prepare txn writes) = refl
 work_writes_lead server old number (work.Decide txn verdict cite) = end_writes old txn (installs server old txn verdict)
 work_writes_lead server old number (work.Release txn) = refl
@@ -196,7 +196,7 @@ cut_end old txn after true =
 cut_end old txn after false = cut_one after (steps.Discard txn (open_vote old txn).number) (stable.Gone txn (open_vote old txn).number) (after == 0) refl refl
 
 cut_work : (server : ℕ) (old : Records) (number : ℕ) (ask : WorkAsk) (after : ℕ) → records_of (cut_step after (work_step server old number ask)) ≡ take after (records_of (work_step server old number ask))
-cut_work server old number (work.Lock txn file mode) after = none_of_none after
+cut_work server old number (work.Lock mode txn file) after = none_of_none after
 cut_work server old number (work.Prepare txn writes) after = cut_vote txn _ after _ refl
 cut_work server old number (work.Decide txn verdict cite) after = cut_end old txn after (installs server old txn verdict)
 cut_work server old number (work.Release txn) after = none_of_none after

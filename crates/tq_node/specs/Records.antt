@@ -64,7 +64,7 @@ abbrev pub release_refusal : Records → ℕ → Option NodeRefusal
 release_refusal old txn = refuse (has_vote old txn) Prepared (refuse (holds_nothing old.locks txn) NothingHere None)
 
 abbrev pub work_refusal : Records → WorkAsk → Option NodeRefusal
-work_refusal old (LockAsk txn file mode) = refuse old.down Down (lock_refusal old txn file mode)
+work_refusal old (LockAsk mode txn file) = refuse old.down Down (lock_refusal old txn file mode)
 work_refusal old (Prepare txn writes) = refuse old.down Down (prepare_refusal old txn writes)
 work_refusal old (Decide txn verdict cite) = refuse old.down Down (refuse (not (has_vote old txn)) NothingHere None)
 work_refusal old (Release txn) = refuse old.down Down (release_refusal old txn)
@@ -105,7 +105,7 @@ abbrev pub newer_writes : Records → List Write → List Write
 newer_writes old writes = filter (is_newer old.copies) writes
 
 abbrev pub work_reply : ℕ → Records → WorkAsk → NodeReply
-work_reply server old (LockAsk txn file mode) = Granted (copy_of old.copies file).version (copy_of old.copies file).content
+work_reply server old (LockAsk mode txn file) = Granted (copy_of old.copies file).version (copy_of old.copies file).content
 work_reply server old (Prepare txn writes) = Yes (map held_lock (held_of old.locks txn)) writes
 work_reply server old (Decide txn verdict cite) = if installs server old txn verdict then Installed else Discarded
 work_reply server old (Release txn) = Released
@@ -121,7 +121,7 @@ reply_of server old (CrashIn after ask) = Crashed
 -- ---- the records after
 
 abbrev pub work_after : ℕ → Records → ℕ → WorkAsk → Records
-work_after server old number (LockAsk txn file mode) = record old { locks = locks_after_grant old.locks file txn mode number (copy_of old.copies file).version }
+work_after server old number (LockAsk mode txn file) = record old { locks = locks_after_grant old.locks file txn mode number (copy_of old.copies file).version }
 work_after server old number (Prepare txn writes) =
     record old {
       locks = stabilised_locks old.locks txn;

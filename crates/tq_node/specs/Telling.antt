@@ -6,7 +6,7 @@ use Rattle.tq_store.specs.{Copies.{Files, copy_of}, Names.same_name, declared.wr
 use Rattle.tq_asks.specs.declared.ask.{NodeAsk.NodeAsk, NodeAsk.TheVariants.Work, WorkAsk.TheVariants.Refresh}
 use Rattle.tq_asks.specs.declared.ask.{Verdict.Verdict, WorkAsk.WorkAsk}
 use Rattle.tq_node.specs.declared.{change.NodeStep.NodeStep, telling.Raised.Raised, telling.Telling.Telling}
-use Rattle.tq_node.specs.declared.telling.Raised.TheVariants.{Written, Asked}
+use Rattle.tq_node.specs.declared.telling.Raised.TheVariants.{Nothing, Written, Asked}
 use Rattle.tq_node.specs.Node.{NodeView, server_after, reply_to_ask}
 use Rattle.tq_node.specs.declared.change.NodeStep.TheVariants as steps
 use Rattle.tq_locks.specs.{Locks.{LockKey, is_exclusive}, declared.mode.Lock.Lock, declared.mode.Mode.Mode}
@@ -18,6 +18,7 @@ offered_files (Work (Refresh file version content from)) = file ∷ []
 offered_files ask = []
 
 abbrev pub raised_files : NodeAsk → Raised → List (List ℕ)
+raised_files ask Nothing = []
 raised_files ask (Written writes) = map (λ write. write.file) writes
 raised_files ask Asked = offered_files ask
 
@@ -26,7 +27,7 @@ abbrev pub step_raises : NodeStep → Raised
 step_raises (steps.Install txn number writes newer) = Written writes
 step_raises (steps.Refresh write) = Written (write ∷ [])
 step_raises (steps.Copies newer) = Written newer
-step_raises other = Written []
+step_raises other = Nothing
 
 -- the copy of each file that is not in the list is as it was
 abbrev pub KeepsOthers : List (List ℕ) → Files → Files → Type 0
@@ -39,6 +40,7 @@ HasOffered ask files = Unit {0}
 
 -- the copy of each raised file is of the version told, or of a later one
 abbrev pub AreReached : NodeAsk → Raised → Files → Type 0
+AreReached ask Nothing files = Unit {0}
 AreReached ask (Written writes) files = AllByRecursion (λ write. write.version ≤ (copy_of files write.file).version) writes
 AreReached ask Asked files = HasOffered ask files
 
@@ -77,7 +79,7 @@ IsWorkTold old new number ask telling = IsTold old new number (Work ask) telling
 
 -- this is told of the request for a lock
 abbrev pub IsLockTold : NodeView → NodeView → ℕ → ℕ → List ℕ → Mode → Telling → Type 0
-IsLockTold old new number txn file mode telling = IsWorkTold old new number (work.Lock txn file mode) telling
+IsLockTold old new number txn file mode telling = IsWorkTold old new number (work.Lock mode txn file) telling
 
 -- this is told of the request for a vote
 abbrev pub IsVoteTold : NodeView → NodeView → ℕ → ℕ → List Write → Telling → Type 0

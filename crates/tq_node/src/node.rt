@@ -261,7 +261,7 @@ impl Node {
                 content,
                 ..
             } => {
-                let plan = plan_refresh(*file, *version, content)?;
+                let plan = plan_refresh(*file.get(), *version, content.get())?;
                 Ok(plan)
             }
         }

@@ -21,6 +21,8 @@ pub struct Telling {
 /// The files whose copies an ask may have raised. The copy of each is of the version told, or of a later one, from then on.
 #[derive(Drop)]
 pub enum Raised {
+    /// None.
+    Nothing,
     /// Those of the writes.
     Written(SharedSeq<Write>),
     /// The one that the ask, a refresh, offers. It stands in the ask, and is not told again.
@@ -28,13 +30,6 @@ pub enum Raised {
 }
 
 impl Raised {
-    /// No file.
-    pub(crate) fn nothing() -> Raised
-        ensures { result ≡ Raised.Written [] }
-    {
-        Raised::Written(SharedSeq::empty())
-    }
-
     /// What the step may raise.
     pub(crate) fn by(alloc: Global, step: &NodeStep) -> Result<Raised, Memory>
         ensures { IfOk result (λ raised. raised ≡ step_raises step.now) }
@@ -49,7 +44,7 @@ impl Raised {
                 let writes = alone(alloc, write)?;
                 Ok(Raised::Written(writes))
             }
-            _ => Ok(Raised::nothing()),
+            _ => Ok(Raised::Nothing),
         }
     }
 }

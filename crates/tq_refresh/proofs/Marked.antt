@@ -1,8 +1,7 @@
 -- The servers of a tree that are marked up, as they are gathered upwards, and what the set of them says of one.
 use Rattle.std.proofs.Common.{◌≡◌, ◌==◌, ◌+◌, ◌-◌, ◌^◌, ◌<◌, ◌≤◌, ℕ, zero, suc, Bool, true, false, cond, List, [], ◌∷◌, ◌++◌, Some, filter, find, get_or, refl, ap, sym, subst, ◌∙◌, arith}
-use Rattle.std.proofs.lemmas.{Bool.{eq-eqb, eqb-true}, List.append-nil}
+use Rattle.std.{proofs.lemmas.{Bool.{eq-eqb, eqb-true}, List.append-nil}, specs.List.All}
 use Rattle.std.proofs.lemmas.List.Elements.{All-cons, All-filter, All-head, All-nil, All-tail, filter-append}
-use Rattle.std.specs.List.{All}
 use Rattle.tq_shape.specs.{ServerSet.{Servers, has_number, servers_of_numbers}, Tree.{IsServer, Server}}
 use Rattle.tq_live.specs.{Live.{Live, is_up}, View.upwards}
 use Rattle.tq_tables.proofs.RowLaws.{upwards-push}

@@ -49,25 +49,32 @@ pub fn copy_ask(
     let NodeReply::Copy { version, content } = reply else {
         return Ok(None);
     };
-    let ask = taking_ask(alloc, job, number, *version, content.clone()?)?;
+    let file = Shared::new(alloc, job.file)?;
+    let content = Shared::new(alloc, content.clone()?)?;
+    let ask = taking_ask(alloc, job, number, *version, file, content)?;
     Ok(Some(ask))
 }
 
-/// What `copy_ask` answers, of a reply that is handed in: its content goes into the ask with no clone.
+/// What `copy_ask` answers, of a reply that is handed in: its content goes into the ask with no clone. Asks that offer
+/// one copy share its file and, where it is what was `seen` last, its content.
 #[inline(always)]
 pub fn copy_ask_of(
     alloc: Global,
     job: &Job,
     number: u64,
     reply: NodeReply,
+    file: &Shared<FileName>,
+    seen: &mut Option<Shared<Content>>,
 ) -> Result<Option<NodeAsk>, Memory>
+    requires { file.now ≡ job.now.file }
     ensures value { IfOk result (λ ask. ask ≡ refresh_of job.now number reply) }
     ensures nothing { refresh_of job.now number reply ≡ None → result ≡ Ok None }
 {
     let NodeReply::Copy { version, content } = reply else {
         return Ok(None);
     };
-    let ask = taking_ask(alloc, job, number, version, content)?;
+    let content = offered(alloc, content, seen)?;
+    let ask = taking_ask(alloc, job, number, version, file.clone()?, content)?;
     Ok(Some(ask))
 }
 
@@ -78,8 +85,10 @@ fn taking_ask(
     job: &Job,
     number: u64,
     version: u64,
-    content: Content,
+    file: Shared<FileName>,
+    content: Shared<Content>,
 ) -> Result<NodeAsk, Memory>
+    requires { file ≡ job.now.file }
     ensures { IfOk result (λ ask.
         Some ask ≡ refresh_of job.now number (NodeReply.Copy version content)) }
 {
@@ -88,10 +97,29 @@ fn taking_ask(
         number,
     };
     let refresh = WorkAsk::Refresh {
-        file: job.file,
+        file,
         version,
         content,
         from,
     };
     Ok(NodeAsk::Work(Shared::new(alloc, refresh)?))
+}
+
+/// The content, which asks that offer it share: that of the ask before, where it is the same.
+#[inline(always)]
+fn offered(
+    alloc: Global,
+    content: Content,
+    seen: &mut Option<Shared<Content>>,
+) -> Result<Shared<Content>, Memory>
+    ensures { IfOk result (λ offered. offered ≡ content) }
+{
+    if let Some(before) = &*seen {
+        if *before.get() == content {
+            return Ok(before.clone()?);
+        }
+    }
+    let offered = Shared::new(alloc, content)?;
+    *seen = Some(offered.clone()?);
+    Ok(offered)
 }

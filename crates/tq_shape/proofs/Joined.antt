@@ -1,7 +1,6 @@
 -- A journal as it is kept, the oldest entry first, and its reverse, the newest first: one state, one legality, one numbering.
-use Rattle.std.specs.Prelude.{slice_get}
+use Rattle.std.{specs.Prelude.slice_get, proofs.lemmas.Bool.{cond-true, cond-false, eq-eqb, ne_eqb}}
 use Rattle.std.proofs.Common.{◌≡◌, ℕ, zero, suc, ◌+◌, ◌≤◌, ◌<◌, List, [], ◌∷◌, ◌++◌, length, Some, None, refl, sym, ap, subst, ◌∙◌, arith, append_assoc, reverse}
-use Rattle.std.proofs.lemmas.Bool.{cond-true, cond-false, eq-eqb, ne_eqb}
 use Rattle.std.proofs.lemmas.List.{reverse-append, append-nil, length-append, length-reverse}
 use Rattle.tq_shape.specs.{Journal.{state_from, IsLegalFrom, state_after, IsLegal, entry_at}, declared.part.Entry.Entry}
 

@@ -10,8 +10,7 @@ use std::sync::Arc;
 /// A list of values that its clones share: a clone is a count, not a copy. Contracts see it as the list alone, as they
 /// see a `Seq`.
 pub struct SharedSeq<T> {
-    /// None where there is no value.
-    items: Option<Arc<Vec<T>>>,
+    items: Arc<Vec<T>>,
 }
 
 // Written out, so that a crate above lets go of one by a call.
@@ -23,31 +22,21 @@ impl<T: Drop> Drop for SharedSeq<T> {
 }
 
 impl<T> Model for SharedSeq<T> {
-    ghost use Rattle.std.specs.{Prelude.{List, [], vec_items}, Coded.coded_list, Arc.arc_value, Option.option_map_or};
+    ghost use Rattle.std.specs.{Prelude.{List, vec_items}, Coded.coded_list, Arc.arc_value};
 
     ghost Value = { List T };
 
     ghost coded = { coded_list T.code };
 
-    ghost view = { λ a. option_map_or (λ items. vec_items (arc_value items)) a.items [] };
+    ghost view = { λ a. vec_items (arc_value a.items) };
 }
 
 impl<T> SharedSeq<T> {
-    /// The list of no value. It takes no memory.
-    pub fn empty() -> Self
-        ensures { result ≡ [] }
-    {
-        SharedSeq { items: None }
-    }
-
     /// The values, in order.
     pub fn as_slice(&self) -> &[T]
         ensures { result.now ≡ self.now }
     {
-        match &self.items {
-            Some(items) => items.as_slice(),
-            None => &[],
-        }
+        self.items.as_slice()
     }
 
     /// How many values there are.
@@ -75,10 +64,7 @@ impl<T: Drop> SharedSeq<T> {
         ensures list { IfOk result (λ list. list ≡ items.items) }
         ensures back { IfErr result (λ refused. refused.value ≡ items) }
     {
-        if items.is_empty() {
-            return Ok(SharedSeq::empty());
-        }
-        let items = Some(Arc::new(*items.allocator(), items)?);
+        let items = Arc::new(*items.allocator(), items)?;
         Ok(SharedSeq { items })
     }
 }

@@ -14,9 +14,8 @@ use Rattle.tq_shell.specs.Rehearsal.{IsOpened, IsRefusedFile, IsRehearsalText}
 use Rattle.tq_shell.specs.Threads.{outcome_line, IsOutcome, IsThreadsText}
 use Rattle.tq_tables.specs.Journals.{JournalsView}
 use Rattle.tq_board.specs.Lines.{IsWrittenOut}
-use Rattle.tq_syntax.specs.declared.{client.ClientLine.ClientLine, fault.ScriptFault.ScriptFault}
+use Rattle.tq_syntax.specs.declared.{client.ClientLine.ClientLine, fault.ScriptFault.{ScriptFault, TheVariants.Bad}}
 use Rattle.tq_syntax.specs.Scripts.{IsRead, are_good, clients_of, has_form, scripts_of}
-use Rattle.tq_syntax.specs.declared.fault.ScriptFault.TheVariants.{Bad}
 use Rattle.tq_shape.specs.Journal.{is_empty}
 
 pub never_ok : {T : Type 0} (P : T → Type 0) (Q : RunFault → Type 0) (result : Result T RunFault) → IsErrAnd result Q → IfOk result P

@@ -1,14 +1,13 @@
 -- How a run goes on, and what it has written where it ends.
 use Rattle.std.proofs.Common.{◌≡◌, ℕ, ◌+◌, ◌-◌, ◌<◌, ◌≤◌, Bool, true, false, List, [], ◌++◌, Option, Result, Ok, Err, length, drop, take, refl, sym, ap, subst, ◌∙◌, arith, append_assoc, length-append}
-use Rattle.std.proofs.lemmas.List.{append-nil, length-take-le, length-drop, take-append-drop}
-use Rattle.std.proofs.Math.Seq.{take-add, take-append_seam}
-use Rattle.std.specs.{Io.KnownBytes.{Appends, Keeps}, Result.IsErrAnd}
+use Rattle.std.{proofs.lemmas.List.{append-nil, length-take-le, length-drop, take-append-drop}, specs.Result.IsErrAnd}
+use Rattle.std.{proofs.Math.Seq.{take-add, take-append_seam}, specs.Io.KnownBytes.{Appends, Keeps}}
 use Rattle.tq_interpreter.specs.Answer.{World}
 use Rattle.tq_shell.specs.Session.{text_of, whole_text, answered_text, IsRunText, IsAnswering, IsGoing}
 use Rattle.tq_shell.specs.Stream.{Received, nothing_received, received_all, answers_to, answer_to_last}
+use Rattle.tq_shell.proofs.StreamLaws.{received_all-append, answers_to-append, whole_text-answers, text_of-answers}
 use Rattle.tq_devices.specs.{Devices.IsWritten, declared.fault.RunFault.RunFault}
 use Rattle.tq_devices.specs.declared.fault.RunFault.TheVariants.{Memory, Read, Write, TooLong}
-use Rattle.tq_shell.proofs.StreamLaws.{received_all-append, answers_to-append, whole_text-answers, text_of-answers}
 use Rattle.tq_devices.proofs.Written.{Appends-kept, Appends-none, Appends-then}
 
 -- what is written of the answers to a piece of what is read, and failures of the sink: all, whole answers to first lines, or

@@ -1,8 +1,7 @@
 -- The machine that receives pieces says the text of the lines.
 use Rattle.std.proofs.Common.{◌≡◌, ℕ, zero, suc, ◌+◌, ◌<◌, ◌≤◌, ◌==◌, Bool, true, false, cond, nat_lt, List, [], ◌∷◌, ◌++◌, length, take, refl, sym, ap, ◌∙◌, arith, append_assoc, inl, inr}
 use Rattle.std.proofs.lemmas.{List.{append-nil, take_all, take-append-le, length-take-le}, Bool.{ne_eqb, cases_lt}}
-use Rattle.std.proofs.lemmas.List.Splits.{length-slice_split}
-use Rattle.std.specs.List.{onto_first}
+use Rattle.std.{proofs.lemmas.List.Splits.length-slice_split, specs.List.onto_first}
 use Rattle.tq_syntax.specs.{declared.line.Line.Line, declared.line.Line.TheVariants.Bad, Line.line_of}
 use Rattle.tq_syntax.specs.{Word.without_return, Scripts.{last_line, whole_parts, last_part, parts_of}}
 use Rattle.tq_interpreter.specs.Answer.{World, answer}

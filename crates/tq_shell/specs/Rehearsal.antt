@@ -5,9 +5,8 @@ use Rattle.tq_shape.specs.declared.part.Part.{Part}
 use Rattle.tq_tables.specs.Journals.{JournalsView}
 use Rattle.tq_merge.specs.Order.{Explains}
 use Rattle.tq_interpreter.specs.Answer.{over}
-use Rattle.tq_shell.specs.declared.opened.{Opened.Opened, Opened.TheVariants.{Ready, Refused}}
+use Rattle.tq_shell.specs.{declared.opened.Opened.{Opened, TheVariants.{Ready, Refused}}, Session.IsRunText}
 use Rattle.tq_shell.specs.{Audit.{IsAudited, status_of, IsFileOf, IsVerdict}, Reading.{file_limit, IsReportText}}
-use Rattle.tq_shell.specs.Session.{IsRunText}
 
 -- the bytes are a file of these journals, and an order explains them
 pub record IsExplainedFile (bytes : List ℕ) (journals : JournalsView) : Type 0 where

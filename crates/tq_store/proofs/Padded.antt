@@ -1,12 +1,11 @@
 -- A name filled up with zeros: the name that it holds, and how such names compare. The bytes of a name are ASCII, so
 -- that a name is text. Names that the test finds the same are the same.
 use Rattle.std.proofs.Common.{◌≡◌, ℕ, zero, suc, ◌+◌, ◌-◌, ◌<◌, ◌≤◌, List, [], ◌∷◌, ◌++◌, length, take, replicate, Bool, true, cond, ◌&&◌, ◌==◌, refl, ap, sym, ◌∙◌, arith, IsTrue, nat_le, slice_index, length-append}
-use Rattle.std.proofs.{lemmas.List.length-replicate, lemmas.Bool.Decides.nat_tests, Math.Seq.take-append_seam}
-use Rattle.std.proofs.lemmas.{Str.Ascii.{IsAscii-cons, IsAscii-nil}, Str.IsUtf8-from_ascii}
+use Rattle.std.proofs.{lemmas.{List.length-replicate, Bool.Decides.nat_tests}, Math.Seq.take-append_seam}
+use Rattle.std.{proofs.lemmas.Str.{Ascii.{IsAscii-cons, IsAscii-nil}, IsUtf8-from_ascii}, specs.Str.{IsAscii, IsUtf8}}
 use Rattle.std.specs.{Prelude.{not, Result, Ok, Err, IsOk, MatchResult}, Cmp.{nat_cmp_is, nat_eq_equiv}}
 use Rattle.std.specs.{declared.cmp.Ordering.TheVariants.{Less, Equal, Greater}, List.{list_all, position_or_len}}
 use Rattle.std.specs.{Cmp.Lexicographic.{slice_cmp, lists_equiv, same_text}, Ordering.{nat_cmp, ordering_then}}
-use Rattle.std.specs.Str.{IsAscii, IsUtf8}
 use Rattle.tq_store.specs.Names.{is_file_name, is_name_byte, name_in, padded_name, starts_with_letter, same_name}
 
 pub both : (a b : Bool) → (a && b) ≡ true → (a ≡ true) × (b ≡ true)

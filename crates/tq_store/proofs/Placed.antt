@@ -6,11 +6,10 @@ use Rattle.std.proofs.lemmas.List.{get_or_default, take_more, get_or_push, get_o
 use Rattle.std.proofs.{lemmas.List.Sums.{position_or_len_is, fails_before_first, passes_at_first}, Math.Decide.dec_lt}
 use Rattle.std.specs.{Prelude.⊤, Map.{keys_of, values_of, lookup}, Cmp.IsEquivalence, declared.cmp.Ordering.Ordering}
 use Rattle.std.specs.{List.{IsDistinct, position_or_len}, BTreeMap.{BTreeMap, is_at}}
-use Rattle.indexmap.specs.IndexMap.{IndexMap, spare}
+use Rattle.indexmap.{specs.IndexMap.{IndexMap, spare}, proofs.MapLemmas.{distinct_from_apart, some_index}}
 use Rattle.std_collections.proofs.Zip.{length-zip_even, keys_of-zip, values_of-zip, zip-swap_remove}
 use Rattle.std_collections.proofs.HashLookup.{distinct_swap_remove, length-swap_remove}
 use Rattle.tq_store.specs.Bounded.{with_spare, ArePlaced}
-use Rattle.indexmap.proofs.MapLemmas.{distinct_from_apart, some_index}
 use Rattle.std.specs.BTreeMap as ordered
 
 module _ {K V Z : Type 0} where

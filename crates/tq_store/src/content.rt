@@ -105,8 +105,7 @@ impl Clone for Content {
 }
 
 impl PartialEq for Content {
-    ghost use Rattle.std.specs.{Prelude.nat_eq, Cmp.Lexicographic.pointwise};
-    ghost use Rattle.std.proofs.Common.{rules};
+    ghost use Rattle.std.{specs.{Prelude.nat_eq, Cmp.Lexicographic.pointwise}, proofs.Common.rules};
 
     ghost eq = { pointwise nat_eq };
 

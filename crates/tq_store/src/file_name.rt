@@ -141,8 +141,7 @@ fn is_name(bytes: &[u8]) -> bool
 }
 
 impl PartialEq for FileName {
-    ghost use Rattle.std.specs.{Prelude.nat_eq, Cmp.Lexicographic.pointwise};
-    ghost use Rattle.std.proofs.Common.{rules};
+    ghost use Rattle.std.{specs.{Prelude.nat_eq, Cmp.Lexicographic.pointwise}, proofs.Common.rules};
 
     ghost eq = { pointwise nat_eq };
 
@@ -172,8 +171,7 @@ impl ExactClone for FileName {
 }
 
 impl Hash for FileName {
-    ghost use Rattle.std.proofs.Common.{ap};
-    ghost use Rattle.std.specs.Cmp.Lexicographic.{bytes_decides};
+    ghost use Rattle.std.{proofs.Common.ap, specs.Cmp.Lexicographic.bytes_decides};
     ghost use Rattle.tq_store.specs.Names.{hashed_words};
 
     ghost hash_input = { hashed_words };
@@ -192,8 +190,7 @@ impl Hash for FileName {
 }
 
 impl Ord for FileName {
-    ghost use Rattle.std.specs.{Ordering.nat_cmp, Cmp.Lexicographic.{slice_cmp, nat_list_cmp_total}};
-    ghost use Rattle.std.specs.Cmp.Rules.{comparing};
+    ghost use Rattle.std.specs.{Ordering.nat_cmp, Cmp.{Lexicographic.{slice_cmp, nat_list_cmp_total}, Rules.comparing}};
     ghost use Rattle.std.proofs.Common.{rules};
 
     ghost cmp = { slice_cmp nat_cmp };

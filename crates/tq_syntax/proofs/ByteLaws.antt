@@ -1,11 +1,9 @@
 -- The lines of the bytes that are left, behind those of the line that goes on.
 use Rattle.std.proofs.Common.{◌≡◌, ◌∙◌, ◌++◌, ◌+◌, ◌-◌, ◌<◌, ◌≤◌, ◌==◌, ℕ, suc, Bool, true, false, cond, List, [], ◌∷◌, length, take, drop, get_or, map, refl, sym, ap, arith, inl, inr, append_assoc, drop-cons}
 use Rattle.std.proofs.lemmas.{List.{append-nil, drop_all, get_or-drop, length-drop, take_all}, Bool.{cases_lt, ne_eqb}}
-use Rattle.std.proofs.{lemmas.List.Splits.length-slice_split, Math.Seq.take-suc}
-use Rattle.std.specs.List.{onto_first, slice_range}
+use Rattle.std.{proofs.{lemmas.List.Splits.length-slice_split, Math.Seq.take-suc}, specs.List.{onto_first, slice_range}}
 use Rattle.tq_syntax.specs.{Scripts.{last_part, parts_of, whole_parts, last_by}, Word.without_return}
-use Rattle.tq_syntax.specs.{ClientLine.client_line_of, declared.client.ClientLine.ClientLine}
-use Rattle.tq_syntax.specs.declared.client.ClientLine.TheVariants.{Bad}
+use Rattle.tq_syntax.specs.{ClientLine.client_line_of, declared.client.ClientLine.{ClientLine, TheVariants.Bad}}
 
 -- the first part goes on from what came before it
 abbrev onto_parts : List ℕ → List (List ℕ) → List (List ℕ)

@@ -2,8 +2,8 @@
 -- gathered.
 use Rattle.std.proofs.Common.{◌≡◌, ◌∙◌, ◌++◌, ◌+◌, ◌<◌, ◌≤◌, ◌&&◌, ℕ, suc, Bool, true, false, nat_lt, nat_le, cond, List, [], ◌∷◌, Option, Some, None, length, take, refl, sym, ap, subst, arith, append_assoc, length-append, inl, inr}
 use Rattle.std.proofs.lemmas.{List.append-nil, Bool.cases_lt}
-use Rattle.tq_shape.specs.Journal.{is_empty}
 use Rattle.std.specs.{List.list_all, Option.option_map_or, Prelude.{Result, Ok, Err}, Global.Vec}
+use Rattle.tq_shape.specs.Journal.{is_empty}
 use Rattle.tq_syntax.specs.declared.{client.ClientLine.ClientLine, script.Line.Line, fault.ScriptFault.ScriptFault}
 use Rattle.tq_syntax.specs.Gathering.{Gathering, gathered_with, going_script, nothing_gathered, said_after, scripts_so_far, IsFinished, IsGatheredWith}
 use Rattle.tq_syntax.specs.Scripts.{Clients, IsFirstBad, are_good, clients_of, has_form, scripts_of, IsRead}

@@ -1,9 +1,8 @@
 -- Words and numbers of a line. The decimal text of a number is read as that number.
 use Rattle.std.proofs.Common.{◌≡◌, ℕ, suc, ◌-◌, ◌<◌, ◌≤◌, ◌==◌, false, List, [], ◌∷◌, Some, None, Option, length, get_or, drop, take, refl, ap, ◌∙◌, arith, drop-cons, zero, ◌+◌, ◌*◌, ◌/◌, ◌%◌, ◌^◌, Bool, true, nat_lt, nat_le, ◌++◌, cond, ◌&&◌, append_assoc, sym}
-use Rattle.std.proofs.lemmas.{Bool.{ne_eqb, eqb-false}, List.append-nil}
+use Rattle.std.{proofs.lemmas.{Bool.{ne_eqb, eqb-false}, List.append-nil}, specs.{Option.unwrap_or, Fmt.decimal}}
 use Rattle.std.proofs.lemmas.Fmt.{decimal_by_steps, decimal_digit, decimal_step, decimal_nonempty, first_decimal}
-use Rattle.tq_syntax.specs.Word.{digits_then, digit_after, without_return, number_of}
-use Rattle.std.specs.{Option.unwrap_or, Fmt.decimal}
+use Rattle.tq_syntax.specs.Word.{digits_then, digit_after, without_return, number_of, word_of}
 
 digits_then-none : (digits : List ℕ) → digits_then digits None ≡ None
 digits_then-none [] = refl
@@ -16,6 +15,10 @@ none_stops digits found none = ap (digits_then digits) none ∙ digits_then-none
 pub digits_stop : (digits : List ℕ) (place value : ℕ) → place < length digits → digit_after value (get_or digits place 0) ≡ None → digits_then (drop place digits) (Some value) ≡ None
 digits_stop digits place value within none =
     rw (drop-cons digits place 0) (none_stops (drop (suc place) digits) (digit_after value (get_or digits place 0)) none)
+
+pub word_stops : (bytes : List ℕ) (place value : ℕ) → place < length bytes → (get_or bytes place 0 == 32) ≡ false → digit_after value (get_or bytes place 0) ≡ None → digits_then (word_of (drop place bytes)) (Some value) ≡ None
+word_stops bytes place value within isnt none =
+    rw (drop-cons bytes place 0, isnt) (none_stops (word_of (drop (suc place) bytes)) (digit_after value (get_or bytes place 0)) none)
 
 -- the bytes without a carriage return at their end
 pub return_dropped : (first : ℕ) (bytes : List ℕ) → get_or (first ∷ bytes) (length bytes) 0 ≡ 13 → take (length bytes) (first ∷ bytes) ≡ without_return (first ∷ bytes)

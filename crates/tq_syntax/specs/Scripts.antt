@@ -2,8 +2,7 @@
 use Rattle.std.specs.Prelude.{ℕ, ◌==◌, List, [], ◌∷◌, ◌++◌, ◌≡◌, ◌⊎◌, ◌<◌, suc, Bool, true, false, ◌&&◌, nat_lt, nat_le, map, length, take, Result, Ok, Err}
 use Rattle.std.specs.{List.{slice_split, list_all}, Global.Vec}
 use Rattle.tq_syntax.specs.{Word.without_return, ClientLine.client_line_of, declared.client.ClientLine.ClientLine}
-use Rattle.tq_syntax.specs.declared.{script.Line.Line, fault.ScriptFault.ScriptFault}
-use Rattle.tq_syntax.specs.declared.fault.ScriptFault.TheVariants.{Memory, Bad}
+use Rattle.tq_syntax.specs.declared.{script.Line.Line, fault.ScriptFault.{ScriptFault, TheVariants.{Memory, Bad}}}
 use Rattle.tq_shape.specs.Journal.{is_empty}
 use Rattle.tq_syntax.specs.declared.client.ClientLine.TheVariants as line
 

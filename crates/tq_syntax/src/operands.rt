@@ -4,7 +4,7 @@ ghost use Rattle.std.specs.{Prelude.{◌≡◌, IfOk, option_map}, List.list_all
 ghost use Rattle.tq_syntax.specs.Word as spec;
 ghost use Rattle.tq_syntax.specs.Word.{options_now, number_of};
 
-use crate::word::{first_word, is_same, number_of};
+use crate::word::{digits_to_space, first_word, is_same, number_of};
 use std::alloc::Global;
 use tq_live::Purpose;
 use tq_shape::Memory;
@@ -68,8 +68,14 @@ pub(crate) fn first_number(rest: Option<&[u8]>) -> Option<Numbered<'_>>
     ensures { option_map (λ n. (n.number, options_now n.rest)) result
         ≡ spec.first_number (options_now rest.entry) }
 {
-    let (word, rest) = first_word(rest?);
-    let number = number_of(word)?;
+    let bytes = rest?;
+    let (number, count, rest) = digits_to_space(bytes)?;
+    if count == 0 {
+        return None;
+    }
+    if count > 1 && bytes[0] == b'0' {
+        return None;
+    }
     Some(Numbered { number, rest })
 }
 

@@ -1,7 +1,7 @@
 //! Words and numbers in bytes.
 
 ghost use Rattle.std.specs.{Prelude.{◌≡◌, ◌+◌, ◌*◌, ◌<◌, ◌^◌, ℕ, IfSome, Some, List, length}, Fmt.decimal};
-ghost use Rattle.std.specs.Str.{bytes_eq};
+ghost use Rattle.std.specs.{Option.option_map, Str.bytes_eq};
 ghost use Rattle.tq_syntax.specs.Word.{number_of, digits_after, digit_after, word_of, rest_of, options_now, without_return};
 
 /// The bytes before the first space, and those after it where there is one.
@@ -45,6 +45,24 @@ pub(crate) fn number_of(word: &[u8]) -> Option<u64>
         return None;
     }
     digits_of(word)
+}
+
+/// The number that the digits before the first space spell, how many these are, and the bytes after the space where there
+/// is one. Zeros may lead the number.
+#[inline(always)]
+pub(crate) fn digits_to_space(bytes: &[u8]) -> Option<(u64, usize, Option<&[u8]>)>
+    ensures value { option_map (λ n. n.0) result ≡ digits_after 0 (word_of bytes.now) }
+    ensures count { IfSome result (λ n. n.1 ≡ length (word_of bytes.now)) }
+    ensures rest { IfSome result (λ n. options_now n.2 ≡ rest_of bytes.now) }
+{
+    let mut value: u64 = 0;
+    for (place, byte) in bytes.iter().enumerate() {
+        if *byte == b' ' {
+            return Some((value, place, Some(&bytes[place + 1..])));
+        }
+        value = with_digit(value, *byte)?;
+    }
+    Some((value, bytes.len(), None))
 }
 
 fn digits_of(word: &[u8]) -> Option<u64>

@@ -1,7 +1,6 @@
 -- Parts that are asked again what their journals have: the journals as far as they are followed.
-use Rattle.std.specs.Prelude.{reverse, replicate}
+use Rattle.std.{specs.Prelude.{reverse, replicate}, proofs.lemmas.List.{get_or-map, length-map, take_all}}
 use Rattle.std.proofs.Common.{◌≡◌, ℕ, zero, suc, ◌+◌, ◌-◌, ◌<◌, ◌^◌, List, [], ◌∷◌, ◌++◌, length, map, take, set, get_or, refl, ap, sym, subst, ◌∙◌, arith, length-take-le}
-use Rattle.std.proofs.lemmas.List.{get_or-map, length-map, take_all}
 use Rattle.tq_shape.specs.{declared.part.Entry.Entry, Journal.{IsLegal, IsLegalFrom}}
 use Rattle.tq_shape.proofs.Joined.{legal-reverse, reverse-legal}
 use Rattle.tq_node.specs.{NodeJournal.{NodeEntry, nothing_stored}, Records.{node_after, node_reply}}
@@ -9,8 +8,7 @@ use Rattle.tq_desk.specs.DeskJournal.{DeskEntry, opened_desk, step_after, step_r
 use Rattle.tq_live.specs.View.{view_after_at, view_reply_at, view_state}
 use Rattle.tq_tables.specs.Tables.{FollowsDesk, FollowsNode, FollowsView, MayAskDesk, MayAskNode, entries_of, with_node, TablesView, tables_of}
 use Rattle.tq_tables.specs.Journals.{JournalsView, ViewEntry, no_entries, with_desk, with_view}
-use Rattle.tq_tables.specs.Parts.{AreLegal, AreLegalServers, bounds_of}
-use Rattle.tq_tables.proofs.RowLaws.{take-next}
+use Rattle.tq_tables.{specs.Parts.{AreLegal, AreLegalServers, bounds_of}, proofs.RowLaws.take-next}
 
 -- ---- the servers' journals: whole before a place, at the place so many entries, and none behind it
 

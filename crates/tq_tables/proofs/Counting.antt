@@ -1,20 +1,18 @@
 -- Commits counted one after another.
 use Rattle.std.specs.{Prelude.{◌||◌, ◌&&◌, not}, Cmp.Lexicographic.texts_ties, List.{list_any, find}, Map.lookup}
-use Rattle.std.specs.Option.{unwrap_or}
+use Rattle.std.{specs.Option.unwrap_or, proofs.lemmas.List.{append-nil, append_assoc, Folds.list_any-append}}
 use Rattle.std.proofs.Common.{◌≡◌, ℕ, suc, ◌+◌, ◌≤◌, Bool, true, false, cond, List, [], ◌∷◌, ◌++◌, length, map, filter, Option, Some, None, is_some, add-zero, refl, ap, sym, ◌∙◌, arith}
-use Rattle.std.proofs.lemmas.{List.{append-nil, append_assoc}, List.Folds.list_any-append}
 use mathlib.Core.Bool.{true≢false}
 use Rattle.std.specs.FinMap as fin
 use Rattle.indexmap.specs.IndexMap.{insert_entry}
 use Rattle.tq_store.specs.{Copies.name_cmp, Names.same_name}
+use Rattle.tq_store.proofs.Padded.{same_name-is, same_name-refl, same_name-sym}
 use Rattle.tq_evidence.specs.{declared.op.Op.Op, Evidence.writes_file}
-use Rattle.tq_desk.specs.{declared.ask.DeskAsk.DeskAsk, declared.ask.DeskReply.DeskReply, DeskStep.with_files}
+use Rattle.tq_desk.specs.{declared.ask.{DeskAsk.DeskAsk, DeskReply.DeskReply}, DeskStep.with_files}
 use Rattle.tq_desk.specs.DeskJournal.{Commit, DeskEntry, commits, count, count_one, with_commit}
-use Rattle.tq_desk.specs.DecisionLog.{is_written}
+use Rattle.tq_desk.{specs.DecisionLog.is_written, proofs.NewFiles.written-is}
 use Rattle.tq_desk.specs.declared.ask.DeskAsk.TheVariants as asks
 use Rattle.tq_desk.specs.declared.ask.DeskReply.TheVariants as replies
-use Rattle.tq_store.proofs.Padded.{same_name-is, same_name-refl, same_name-sym}
-use Rattle.tq_desk.proofs.NewFiles.{written-is}
 use Rattle.tq_tables.specs.Rows.{files_in, files_of, commit_counts, count_in, names_of, with_one, with_each}
 use Rattle.tq_tables.proofs.Kept.{is_in, Apart, or_parts, or-false, either, or_comm, filter_agree, without, without-more, is_in-filter, Apart-filter, Apart-append, Apart-keys}
 

@@ -11,7 +11,7 @@ use Rattle.tq_evidence.specs.contracts.grant.GrantPartialEq.TheImpl as grant_eq
 use Rattle.tq_evidence.specs.declared.op.OpKind.TheVariants as kinds
 use Rattle.tq_evidence.specs.contracts.op.OpKindPartialEq.TheImpl as kinds_eq
 use Rattle.tq_evidence.specs.contracts.op.OpPartialEq.TheImpl as op_eq
-use Rattle.tq_store.specs.{Names.same_name, declared.write.Write.Write}
+use Rattle.tq_store.{specs.{Names.same_name, declared.write.Write.Write}, proofs.Padded.{same_name-is, same_name-refl}}
 use Rattle.tq_tables.specs.Same.{same_mode, same_kind, same_grant, same_op, same_lock, same_write, same_work, same_node_ask, same_reason, same_node_reply, same_vote, same_desk_ask, same_desk_reason, same_desk_reply}
 use Rattle.tq_asks.specs.declared.ask.{CitedVote.CitedVote, HeldLock.HeldLock, Verdict.Verdict, WorkAsk.WorkAsk}
 use Rattle.tq_asks.specs.declared.ask.{NodeAsk.NodeAsk, NodeRefusal.NodeRefusal, NodeReply.NodeReply}
@@ -26,7 +26,6 @@ use Rattle.tq_desk.specs.declared.ask.{DeskAsk.DeskAsk, DeskRefusal.DeskRefusal,
 use Rattle.tq_desk.specs.declared.ask.DeskAsk.TheVariants as desk_asks
 use Rattle.tq_desk.specs.declared.ask.DeskRefusal.TheVariants as desk_reasons
 use Rattle.tq_desk.specs.declared.ask.DeskReply.TheVariants as desk_replies
-use Rattle.tq_store.proofs.Padded.{same_name-is, same_name-refl}
 
 pub pointwise-same : {A : Type 0} (f g : A → A → Bool) → ((a b : A) → f a b ≡ g a b) → (xs ys : List A) → pointwise f xs ys ≡ pointwise g xs ys
 pointwise-same f g same [] [] = refl
@@ -140,10 +139,10 @@ verdict-self (verdicts.Commit votes) = list-self same_cited cited-is cited-self 
 -- ---- a server's asks
 
 pub work-is : (a b : WorkAsk) → same_work a b ≡ true → a ≡ b
-work-is (work.Lock t f m) (work.Lock u g n) same =
+work-is (work.Lock m t f) (work.Lock n u g) same =
     let rest = and_parts _ _ same in
     let first = and_parts _ _ rest.0 in
-    λ i. work.Lock (eqb-true t u first.0 i) (same_name-is f g first.1 i) (mode-is m n rest.1 i)
+    λ i. work.Lock (mode-is m n rest.1 i) (eqb-true t u first.0 i) (same_name-is f g first.1 i)
 work-is (work.Prepare t a) (work.Prepare u b) same =
     let parts = and_parts _ _ same in
     λ i. work.Prepare (eqb-true t u parts.0 i) (writes-are a b parts.1 i)
@@ -161,7 +160,7 @@ work-is (work.Refresh f v c s) (work.Refresh g w d r) same =
 work-is a b same = absurd (false≢true same)
 
 work-self : (a : WorkAsk) → same_work a a ≡ true
-work-self (work.Lock t f m) = simp (number-self, same_name-refl, mode-self)
+work-self (work.Lock m t f) = simp (number-self, same_name-refl, mode-self)
 work-self (work.Prepare t a) = simp (number-self, writes-self)
 work-self (work.Decide t v c) = simp (number-self, verdict-self)
 work-self (work.Release t) = number-self t

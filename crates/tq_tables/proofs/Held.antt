@@ -5,8 +5,7 @@ use Rattle.std.proofs.{lemmas.Bool.eqb-true, lemmas.List.{length-set, map-append
 use Rattle.std.proofs.lemmas.List.Elements.{All-nil, All-cons, All-head, All-tail, All-set}
 use Rattle.tq_shape.specs.ServerSet.{Servers, has_number, with_number}
 use Rattle.tq_store.specs.{Copies.{copy_at, copy_of, name_cmp}, declared.write.Write.Write, Names.same_name}
-use Rattle.tq_store.specs.declared.copies.FileCopy.{FileCopy}
-use Rattle.tq_store.proofs.Padded.{same_name-is}
+use Rattle.tq_store.{specs.declared.copies.FileCopy.FileCopy, proofs.Padded.same_name-is}
 use Rattle.tq_node.specs.Node.{NodeView}
 use Rattle.tq_tables.specs.declared.{file_row.FileRow.FileRow, holders.Holders.Holders}
 use Rattle.tq_tables.specs.Files.{AreHolders, HaveRows, OthersLack, has_row, held_by, all_stood, names_in, stood_at, with_row, with_rows}

@@ -1,7 +1,6 @@
 -- Lists of names in which none stands twice. Rows that are kept under the names of their files.
-use Rattle.std.specs.{Prelude.{◌||◌, ◌&&◌, not}, Cmp.Lexicographic.texts_ties, FinMap.is_sorted}
-use Rattle.std.specs.{FinMap.Entries.below_all, Ordering.{is_lt, is_eq}, declared.cmp.Ordering.Ordering}
-use Rattle.std.specs.declared.cmp.Ordering.TheVariants.{Less, Equal, Greater}
+use Rattle.std.specs.{Prelude.{◌||◌, ◌&&◌, not}, Cmp.Lexicographic.texts_ties, FinMap.{is_sorted, Entries.below_all}}
+use Rattle.std.specs.{Ordering.{is_lt, is_eq}, declared.cmp.Ordering.{Ordering, TheVariants.{Less, Equal, Greater}}}
 use Rattle.std.proofs.Common.{◌≡◌, ℕ, Bool, true, false, cond, List, [], ◌∷◌, ◌++◌, map, filter, refl, ap, sym, ◌∙◌, get_or, Some, None, is_some, subst}
 use Rattle.std.proofs.{lemmas.List.Folds.list_any-append, Math.Bool.and-false}
 use lib.Dec.{T}
@@ -9,9 +8,7 @@ use mathlib.Core.Bool.{true≢false}
 use Rattle.std.specs.FinMap as fin
 use Rattle.tq_store.specs.{Copies.name_cmp, Names.same_name}
 use Rattle.tq_store.proofs.Padded.{same_name-is, same_name-refl, same_name-sym}
-pub use Rattle.std.proofs.Math.Bool.{or-false, or-true, or_comm}
-pub use Rattle.std.proofs.lemmas.Bool.{or_parts}
-pub use Rattle.std.proofs.lemmas.List.Elements.{filter_agree}
+pub use Rattle.std.proofs.{Math.Bool.{or-false, or-true, or_comm}, lemmas.{Bool.or_parts, List.Elements.filter_agree}}
 pub use Rattle.tq_tables.specs.Rows.{is_in, Apart}
 use mathlib.Core.List.{map-map}
 use Rattle.std.specs.{List.{All, list_any}, Map.lookup, Option.unwrap_or}

@@ -1,21 +1,18 @@
 -- The tables with one entry more. What is reserved beside the tables.
-use Rattle.std.specs.{Prelude.reverse, Global.Box}
+use Rattle.std.{specs.{Prelude.reverse, Global.Box}, proofs.lemmas.{List.length-reverse, Option.{none-some, same_Some}}}
 use Rattle.std.proofs.Common.{◌≡◌, ◌+◌, ◌<◌, ◌^◌, ℕ, List, [], ◌∷◌, ◌++◌, length, ap, sym, subst, ◌∙◌, arith, Option, Some, None, Bor}
-use Rattle.std.proofs.lemmas.{List.length-reverse, Option.{none-some, same_Some}}
 use Rattle.tq_shape.specs.{declared.part.Entry.Entry, Journal.IsLegalFrom, declared.part.Part.Part}
 use Rattle.tq_shape.proofs.Joined.{reverse-push, state-push}
 use Rattle.tq_desk.specs.{declared.ask.DeskAsk.DeskAsk, DeskStep.{DeskView, desk_after, desk_reply}}
 use Rattle.tq_desk.specs.DeskJournal.{DeskEntry, IsLegalDesk, commits, with_commit}
 use Rattle.tq_live.specs.{Live.Live, View.{IsLegalView, view_after, view_after_at, view_reply_at, view_state}}
-use Rattle.tq_live.specs.{ViewLaws.keeps_levels, declared.view.ViewAsk.ViewAsk}
-use Rattle.tq_live.proofs.Journal.{replays}
+use Rattle.tq_live.{specs.{ViewLaws.keeps_levels, declared.view.ViewAsk.ViewAsk}, proofs.Journal.replays}
 use Rattle.tq_tables.specs.declared.{file_row.FileRow.FileRow, intent_rows.IntentState.IntentState}
 use Rattle.tq_tables.specs.Rows.{intent_state_at, file_rows, intent_rows, intent_state, quorum_rows}
 use Rattle.tq_tables.specs.{Journals.{JournalsView, ViewEntry, with_desk, with_view}, declared.ready_entry.Ready.Ready}
 use Rattle.tq_tables.specs.Parts.{AreLegal, PartsView, bounds_of, desk_at, nodes_at, view_at}
 use Rattle.tq_tables.specs.Tables.{MayAskDesk, MayAskNode, TablesView, tables_at, tables_of, IsNextOfDesk, IsNextEntry, with_entry, IsNextOfServer}
-use Rattle.tq_tables.specs.declared.{journals.PartEntry.PartEntry, ready_entry.PartAsk.PartAsk}
-use Rattle.tq_tables.specs.declared.ready_entry.ReadyEntry.{ReadyEntry}
+use Rattle.tq_tables.specs.declared.{journals.PartEntry.PartEntry, ready_entry.{PartAsk.PartAsk, ReadyEntry.ReadyEntry}}
 use Rattle.tq_tables.specs.Reserved.{AreCopied, AreFollowed, AreReady, IsReserve, LeadsTo, ask_of, ready_entry, reserved_entry, tables_in, unready, with_ready}
 use Rattle.tq_tables.proofs.{Counting.commits-most, RowLaws.{begun-bound, desk_at-is, desk-push}, Restood.states-same}
 use Rattle.tq_shape.specs.declared.part.Part.TheVariants as part_names

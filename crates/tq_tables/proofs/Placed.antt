@@ -3,8 +3,7 @@ use Rattle.std.specs.{Prelude.{◌||◌, slice_get}, Map.lookup, Option.unwrap_o
 use Rattle.std.proofs.Common.{◌≡◌, ℕ, zero, suc, Bool, true, false, cond, List, [], ◌∷◌, map, Option, Some, None, is_some, true≢false, refl, ap, sym, subst, ◌∙◌}
 use Rattle.std.proofs.lemmas.{List.Elements.{All-head, All-tail}, Option.same_Some}
 use Rattle.indexmap.specs.IndexMap.{set_value_at}
-use Rattle.tq_store.specs.Names.{same_name}
-use Rattle.tq_store.proofs.Padded.{same_name-is, same_name-refl}
+use Rattle.tq_store.{specs.Names.same_name, proofs.Padded.{same_name-is, same_name-refl}}
 use Rattle.tq_node.specs.Node.{NodeView}
 use Rattle.tq_tables.specs.{declared.file_row.FileRow.FileRow, Rows.{is_in, Apart}}
 use Rattle.tq_tables.specs.Files.{AreFiles, AreOfLevels, names_in, row_by_copy, stood_at, IsOfLevels, by_file, HasRowAt}

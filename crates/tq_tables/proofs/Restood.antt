@@ -1,10 +1,10 @@
 -- The tables as a whole. The tables with an entry more of a server.
 use Rattle.std.proofs.Common.{◌≡◌, ◌+◌, ◌-◌, ◌^◌, ◌<◌, ℕ, zero, suc, cond, slice_index_or, ◌&&◌, List, [], length, map, refl, ap, ◌∙◌, arith, nat_le, ◌≤◌, false, ◌∷◌, ◌++◌, set, get_or}
 use Rattle.std.proofs.lemmas.{List.{length-map, get_or-set_same, get_or_default}, List.Elements.All-map, Nat.pow_pos}
+use Rattle.std.specs.Prelude.{reverse}
 use Rattle.std.specs.FinMap as fin
-use Rattle.tq_desk.specs.DeskStep.{DeskView}
+use Rattle.tq_desk.{specs.DeskStep.DeskView, proofs.DecisionLog.desk_keeps}
 use Rattle.tq_desk.specs.DeskJournal.{Commit, DeskBounds, DeskEntry, IsLegalDesk, desk_state, commits}
-use Rattle.tq_desk.proofs.DecisionLog.{desk_keeps}
 use Rattle.tq_live.specs.{Live.Live, View.upwards, declared.purpose.Purpose.Purpose}
 use Rattle.tq_live.specs.declared.purpose.Purpose.TheVariants as purposes
 use Rattle.tq_node.specs.{Node.{NodeView, server_after}, NodeJournal.NodeEntry}
@@ -14,10 +14,9 @@ use Rattle.tq_tables.specs.{Journals.{no_entries, JournalsView}, Files.{AreExact
 use Rattle.tq_tables.specs.Parts.{PartsView, bounds_of, desk_at, parts_of, AreLegal, AreOfTree, node_after_all, nodes_at}
 use Rattle.tq_tables.specs.Tables.{tables_at, tables_of, TablesView, entries_of, with_node, MayAskNode, node_in}
 use Rattle.tq_tables.specs.declared.intent_rows.IntentState.{IntentState}
-use Rattle.tq_shape.specs.Limits.{LimitsView}
-use Rattle.std.specs.Prelude.{reverse}
-use Rattle.tq_store.specs.Copies.{copy_of}
 use Rattle.tq_tables.proofs.{RowLaws.{answered-push, desk_at-is, at-place}, Stood.all_stood-are}
+use Rattle.tq_shape.specs.Limits.{LimitsView}
+use Rattle.tq_store.specs.Copies.{copy_of}
 
 length-upwards : (first count : ℕ) → length (upwards first count) ≡ count
 length-upwards first zero = refl

@@ -5,12 +5,12 @@ use Rattle.std.proofs.lemmas.List.Elements.{All-filter, All-map, filter-append}
 use mathlib.Core.List.{map-map}
 use Rattle.std.specs.{List.All, Prelude.reverse}
 use Rattle.tq_shape.specs.{ServerSet.Servers, Tree.Server, Limits.LimitsView, Journal.{state_from, state_at}}
+use Rattle.tq_shape.proofs.Joined.{state-push, state-reverse}
 use Rattle.tq_live.specs.{View.{upwards, view_after, view_reply_at, view_after_at, view_state}, Live.Live}
 use Rattle.tq_node.specs.{Node.{NodeView, server_after}, Records.{NodeState, node_reply, node_after}}
 use Rattle.tq_node.specs.NodeJournal.{NodeEntry}
 use Rattle.tq_tables.specs.Parts.{AreOfTree, node_at, desk_at, node_after_all, nodes_at, bounds_of}
 use Rattle.tq_tables.specs.{Rows.{row_at, servers_where}, Journals.ViewEntry}
-use Rattle.tq_shape.proofs.Joined.{state-push, state-reverse}
 use Rattle.tq_node.specs.Node as node
 use Rattle.tq_desk.specs.declared.ask.{DeskAsk.DeskAsk, DeskRefusal.DeskRefusal}
 use Rattle.tq_desk.specs.DeskStep.{DeskView, desk_reply, desk_after, desk_refusal, desk_answered}

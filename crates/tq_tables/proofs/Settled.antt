@@ -8,8 +8,7 @@ use Rattle.tq_store.specs.Copies.{copy_of}
 use Rattle.tq_node.specs.Node.{NodeView}
 use Rattle.tq_tables.specs.{declared.file_row.FileRow.FileRow, Tables.node_in, Parts.{AreOfTree, node_after_all}}
 use Rattle.tq_tables.specs.Files.{row_after_move, row_by_copy, stood_in, IsOfLevels, OthersLack}
-use Rattle.tq_tables.specs.Rows.{has_version, row_at, servers_where}
-use Rattle.tq_tables.proofs.RowLaws.{at-place}
+use Rattle.tq_tables.{specs.Rows.{has_version, row_at, servers_where}, proofs.RowLaws.at-place}
 use Rattle.tq_tables.proofs.Stood.{eq-above, eq-below, head-placed, numbers-if, passing, placed, placed-later, those}
 
 -- ---- the numbers, where some servers are placed anew

@@ -1,7 +1,6 @@
 -- Rows as a server stands in them after it changed.
-use Rattle.std.specs.{Prelude.{◌||◌, ◌==◌, not, nat_le}, List.fold}
+use Rattle.std.{specs.{Prelude.{◌||◌, ◌==◌, not, nat_le}, List.fold}, proofs.lemmas.List.{length-set, map-id, set-set}}
 use Rattle.std.proofs.Common.{◌≡◌, ℕ, zero, suc, ◌+◌, ◌<◌, Bool, true, false, cond, List, [], ◌∷◌, length, map, filter, set, get_or, refl, ap, sym, subst, ◌∙◌, arith}
-use Rattle.std.proofs.lemmas.List.{length-set, map-id, set-set}
 use mathlib.Core.List.{map-map}
 use Rattle.tq_shape.specs.ServerSet.{Servers, with_number, without_number}
 use Rattle.tq_store.specs.{Copies.copy_of, Names.same_name, declared.copies.FileCopy.FileCopy}

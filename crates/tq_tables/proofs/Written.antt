@@ -1,13 +1,11 @@
 -- The rows of files with one commit more.
-use Rattle.std.specs.Prelude.{◌||◌}
+use Rattle.std.{specs.Prelude.◌||◌, proofs.lemmas.List.{map-id, Elements.All-map}}
 use Rattle.std.proofs.Common.{◌≡◌, ℕ, ◌+◌, ◌<◌, ◌^◌, Bool, true, false, cond, List, [], ◌∷◌, length, map, refl, ap, sym, subst, ◌∙◌, arith}
-use Rattle.std.proofs.lemmas.{List.map-id, List.Elements.All-map}
 use mathlib.Core.List.{map-map}
 use mathlib.Core.Bool.{true≢false}
 use Rattle.std.specs.FinMap as fin
 use Rattle.indexmap.specs.IndexMap.{insert_entry}
-use Rattle.tq_store.specs.Names.{same_name}
-use Rattle.tq_store.proofs.Padded.{same_name-is, same_name-refl}
+use Rattle.tq_store.{specs.Names.same_name, proofs.Padded.{same_name-is, same_name-refl}}
 use Rattle.tq_evidence.specs.declared.op.Op.{Op}
 use Rattle.tq_desk.specs.{declared.ask.DeskAsk.DeskAsk, declared.ask.DeskReply.DeskReply, DeskStep.with_files}
 use Rattle.tq_desk.specs.DeskJournal.{Commit, count, with_commit}

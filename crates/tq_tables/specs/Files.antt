@@ -3,7 +3,7 @@
 use Rattle.std.specs.Prelude.{◌≡◌, ◌+◌, ◌≤◌, ℕ, Bool, true, false, cond, List, [], ◌∷◌, map, fold, slice_get, Option, Some, refl, length}
 use Rattle.std.specs.{Coded.{Coded, code_by, coded×, coded_list, coded_ℕ}, List.{All, AllByRecursion}, Map.lookup}
 use Rattle.indexmap.specs.IndexMap.{set_value_at}
-use Rattle.tq_shape.specs.{Tree.Server, ServerSet.{Servers, with_number, without_number, has_number}}
+use Rattle.tq_shape.specs.{Tree.Server, ServerSet.{Servers, set_with, set_without, has_number}}
 use Rattle.tq_store.specs.{Copies.copy_of, Names.same_name, declared.write.Write.Write}
 use Rattle.tq_asks.specs.declared.ask.NodeAsk.{NodeAsk}
 use Rattle.tq_evidence.specs.declared.op.Op.{Op}
@@ -86,16 +86,10 @@ written_files writes = map (λ write. write.file) writes
 
 -- ---- a server's copy
 
-abbrev pub put_in : ℕ → Servers → Servers
-put_in server set = record { levels = set.levels; numbers = with_number server set.numbers }
-
-abbrev pub taken_out : ℕ → Servers → Servers
-taken_out server set = record { levels = set.levels; numbers = without_number server set.numbers }
-
 -- the row with a server among the current ones, or else among the stale ones
 abbrev pub row_after_move : Bool → ℕ → FileRow → FileRow
-row_after_move true server row = record { file = row.file; version = row.version; current = put_in server row.current; stale = taken_out server row.stale }
-row_after_move false server row = record { file = row.file; version = row.version; current = taken_out server row.current; stale = put_in server row.stale }
+row_after_move true server row = record { file = row.file; version = row.version; current = set_with server row.current; stale = set_without server row.stale }
+row_after_move false server row = record { file = row.file; version = row.version; current = set_without server row.current; stale = set_with server row.stale }
 
 -- the row with a server where its copy of the file says
 abbrev pub row_by_copy : NodeView → FileRow → FileRow
@@ -176,4 +170,4 @@ pub record AreHolders (levels : ℕ) (nodes : List NodeView) (rows : List FileRo
 -- those after copies of files rose at a server; whether each of the files has a row
 abbrev pub held_by : Bool → ℕ → Holders → Holders
 held_by true server holders = holders
-held_by false server holders = record { early = put_in server holders.early; all = holders.all }
+held_by false server holders = record { early = set_with server holders.early; all = holders.all }

@@ -2,10 +2,9 @@
 use Rattle.std.specs.{Prelude.{◌≡◌, ℕ, Option, Some, None, IfSome, ⊤}, Global.Box, Option.option_map}
 use Rattle.tq_shape.specs.declared.part.Part.{Part}
 use Rattle.tq_shape.specs.declared.part.Part.TheVariants as parts
-use Rattle.tq_tables.specs.declared.{journals.PartEntry.PartEntry, ready_entry.PartAsk.PartAsk, ready_entry.Ready.Ready}
-use Rattle.tq_tables.specs.{declared.ready_entry.ReadyEntry.ReadyEntry, Files.AreHolders}
+use Rattle.tq_tables.specs.declared.{journals.PartEntry.PartEntry, ready_entry.{PartAsk.PartAsk, Ready.Ready}}
+use Rattle.tq_tables.specs.{declared.{ready_entry.ReadyEntry.ReadyEntry, followed.Followed.Followed}, Files.AreHolders}
 use Rattle.tq_tables.specs.Tables.{FollowsDesk, FollowsNode, FollowsView, TablesView, tables_at}
-use Rattle.tq_tables.specs.declared.followed.Followed.{Followed}
 use Rattle.tq_tables.specs.declared.journals.PartEntry.TheVariants as lent
 use Rattle.tq_tables.specs.declared.ready_entry.PartAsk.TheVariants as asks
 

@@ -36,7 +36,7 @@ same_write a b = same_name a.file b.file && a.version == b.version && same_name 
 -- ---- of a server
 
 abbrev pub same_work : WorkAsk → WorkAsk → Bool
-same_work (work.Lock t f m) (work.Lock u g n) = t == u && same_name f g && same_mode m n
+same_work (work.Lock m t f) (work.Lock n u g) = t == u && same_name f g && same_mode m n
 same_work (work.Prepare t a) (work.Prepare u b) = t == u && pointwise same_write a b
 same_work (work.Decide t v c) (work.Decide u w d) = t == u && same_verdict v w && c == d
 same_work (work.Release t) (work.Release u) = t == u

@@ -200,6 +200,7 @@ impl FileTable {
         ensures found { OnTrue result (HaveRows self.old.rows (raised_files ask.now raised.now)) }
     {
         match raised {
+            Raised::Nothing => true,
             Raised::Written(writes) => self.set_currency_of_written(node, writes.as_slice()),
             Raised::Asked => self.set_currency_of_offered(node, ask),
         }
@@ -218,7 +219,9 @@ impl FileTable {
         match ask {
             NodeAsk::Work(work) => match work.get() {
                 WorkAsk::Refresh { file, version, .. } => self.set_currency_near_last(
-                    node, file, *version,
+                    node,
+                    file.get(),
+                    *version,
                 ),
                 WorkAsk::Lock { .. } => true,
                 WorkAsk::Prepare { .. } => true,

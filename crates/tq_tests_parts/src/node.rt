@@ -14,9 +14,9 @@ fn refresh(alloc: Global) -> Result<NodeAsk, Memory> {
         number: 1,
     };
     let refresh = WorkAsk::Refresh {
-        file: FileName::new(b"a").unwrap(),
+        file: Shared::new(alloc, FileName::new(b"a").unwrap())?,
         version: 1,
-        content: Content::empty(),
+        content: Shared::new(alloc, Content::empty())?,
         from,
     };
     Ok(NodeAsk::Work(Shared::new(alloc, refresh)?))

@@ -95,15 +95,21 @@ fn grants_are_refused(alloc: Global) -> bool {
 
 /// A vote of a server, as its second entry, for a transaction that holds and writes nothing there.
 fn voted(alloc: Global, server: u64, txn: u64) -> Result<NodeTold, Memory> {
-    let writes = SharedSeq::empty();
-    let ask = NodeAsk::Work(Shared::new(alloc, WorkAsk::Prepare { txn, writes })?);
+    let writes = SharedSeq::from_vec(Vec::new(alloc))?;
+    let ask = NodeAsk::Work(Shared::new(
+        alloc,
+        WorkAsk::Prepare {
+            txn,
+            writes: writes.clone()?,
+        },
+    )?);
     Ok(NodeTold {
         server,
         number: 2,
         ask,
         reply: NodeReply::Yes {
-            held: SharedSeq::empty(),
-            writes: SharedSeq::empty(),
+            held: SharedSeq::from_vec(Vec::new(alloc))?,
+            writes,
         },
     })
 }
@@ -151,7 +157,7 @@ fn votes_are_refused(alloc: Global) -> bool {
 // ---- verdicts
 
 fn is_refused(alloc: Global, told: &DeskTold) -> bool {
-    match begun(alloc).end(alloc, told) {
+    match begun(alloc).end(told) {
         Ok(ended) => {
             forget(ended);
             false

@@ -9,9 +9,8 @@ use Rattle.tq_live.specs.declared.view.{ViewReply.ViewReply, ViewRefusal.ViewRef
 use Rattle.tq_live.specs.declared.view.ViewReply.TheVariants as replies
 use Rattle.tq_live.specs.declared.view.ViewRefusal.TheVariants as refusals
 use Rattle.tq_store.specs.declared.copies.FileCopy.{FileCopy}
-use Rattle.tq_txn.specs.declared.txn.{Applied.Applied, Applied.TheVariants.{Installed, Discarded}}
-use Rattle.tq_txn.specs.declared.txn.{ReadAnswer.ReadAnswer, ReadAnswer.TheVariants.{Pending, Copy}}
-use Rattle.tq_txn.specs.declared.fault.LineFault.{LineFault}
+use Rattle.tq_txn.specs.declared.txn.{Applied.{Applied, TheVariants.{Installed, Discarded}}, ReadAnswer.ReadAnswer}
+use Rattle.tq_txn.specs.declared.{txn.ReadAnswer.TheVariants.{Pending, Copy}, fault.LineFault.LineFault}
 use Rattle.tq_shape.specs.declared.part.{Part.Part, Part.TheVariants.{Server, Desk, View}}
 use Rattle.tq_desk.specs.declared.ask.DeskRefusal.{DeskRefusal}
 use Rattle.tq_desk.specs.declared.ask.DeskRefusal.TheVariants as desk

@@ -8,14 +8,14 @@ use Rattle.tq_txn.specs.Commits.{prepares_line, commit_answer, txn_after_answer,
 use Rattle.tq_txn.specs.Dialogue.{LineEnd, Follows, line_done, ended_by, desk_line, desk_exchange}
 use Rattle.tq_txn.specs.Lines.{answers, prepare_line, ending_line}
 use Rattle.tq_txn.specs.Told.{Grown, IsStill, levels_of, number_of, EndsWhereTold, IsAnswered, IsEnding, IsKnown, is_ended}
+use Rattle.tq_txn.proofs.LineLaws.{follows_end, follows_answer, follows_on, follows_off}
+use Rattle.tq_txn.proofs.EndLaws.{Untold, ends_after, ends_answered, ends_before, ends_nothing, ends_refused, resolved_answered, resolved_ends, resolved_still, gathered_on, still_same}
+use Rattle.tq_txn.proofs.KnownLaws.{knows_answered, knows_grow, ends_as_told, ends_unasked, ends_within}
 use Rattle.tq_txn_states.specs.{declared.fault.TxnFault.TxnFault, declared.told.DeskTold.DeskTold, Open.OpenView}
 use Rattle.tq_txn_states.specs.Ended.{EndedView, verdict_in}
 use Rattle.tq_txn_states.specs.Voting.{VotingView, has_votes, ready_fault, evidence_of, IsVotedOn}
 use Rattle.tq_txn_states.specs.declared.fault.TxnFault.TheVariants as txn_faults
 use Rattle.tq_txn.specs.declared.txn.Txn.TheVariants as states
-use Rattle.tq_txn.proofs.LineLaws.{follows_end, follows_answer, follows_on, follows_off}
-use Rattle.tq_txn.proofs.EndLaws.{Untold, ends_after, ends_answered, ends_before, ends_nothing, ends_refused, resolved_answered, resolved_ends, resolved_still, gathered_on, still_same}
-use Rattle.tq_txn.proofs.KnownLaws.{knows_answered, knows_grow, ends_as_told, ends_unasked, ends_within}
 
 module _ (voters rest : List ℕ) (server : ℕ) (old new : VotingView) (is : voters ≡ server ∷ rest) where
   pub prepares_off : (fault : LineFault) (told after : List Exchange) → Follows (prepare_line old server) told after (ended_by (Err fault) new) → Follows (prepares_line voters old) told after (ended_by (Err fault) new)

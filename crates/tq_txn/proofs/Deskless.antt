@@ -11,10 +11,9 @@ use Rattle.tq_txn.specs.declared.{asker.Exchange.Exchange, fault.LineFault.LineF
 use Rattle.tq_txn.specs.Commits.{is_abort, abort_answer, end_aborted, abort_end, prepares_line, commit_end}
 use Rattle.tq_txn.specs.Dialogue.{Told, Dialogue, Ends, AsksNode, AsksDesk, AsksView, Makes, Begins, Follows, LineEnd, then_line, line_done, go_on, and_then, unless, on_told, node_line}
 use Rattle.tq_txn.specs.Lines.{answers, refusal_in, refused_at, vote_answer, first_prepare, prepare_line, any_line, is_nothing_here, release_line, end_line, ending_line}
-use Rattle.tq_txn.specs.Told.{CitesTold, CitesSince, tells_end}
+use Rattle.tq_txn.{specs.Told.{CitesTold, CitesSince, tells_end}, proofs.EndLaws.Untold}
 use Rattle.tq_txn.specs.declared.asker.Exchange.TheVariants as exchanges
 use Rattle.tq_txn.specs.declared.txn.Txn.TheVariants as states
-use Rattle.tq_txn.proofs.EndLaws.{Untold}
 
 -- the desk is not asked
 abbrev pub IsDeskless : {A : Type 0} → Dialogue A → Type 0

@@ -3,6 +3,7 @@
 use Rattle.std.proofs.Common.{◌≡◌, ℕ, List, ◌++◌, Option, Some, Result, Ok, Err, refl, sym, subst, ◌==◌, arith, suc, Bool, true, false, cond, [], ◌∷◌, None, nat_lt, ◌∙◌, ◌||◌, is_some, ap, append-nil}
 use Rattle.std.proofs.lemmas.List.Elements.{All-nil, All-cons, All-weaker, All-contains, All-contains_itself}
 use Rattle.std.proofs.{Math.Bool.or-false, lemmas.Bool.eq-eqb, lemmas.List.Folds.list_any-append}
+use Rattle.std.specs.List.{All, Contains, list_any}
 use Rattle.tq_shape.specs.{Tree.Server, declared.fault.AskFault.AskFault}
 use Rattle.tq_coterie.specs.Coterie.{numbers_of}
 use Rattle.tq_desk.specs.declared.ask.DeskAsk.TheVariants as asks
@@ -13,9 +14,8 @@ use Rattle.tq_txn.specs.declared.{asker.Exchange.Exchange, fault.LineFault.LineF
 use Rattle.tq_txn.specs.{Commits.{txn_after_resolve, ending_of, abort_end, abort_line, resolved_by}, Lines.ending_line}
 use Rattle.tq_txn.specs.Dialogue.{LineEnd, Follows, line_done, ended_by, fault_of_ask, desk_exchange, desk_line}
 use Rattle.tq_txn.specs.Told.{number_of, IsEndOf, IsGathered, IsStill, IsAnswered, is_ended, tells_end, EndsWhereTold}
-use Rattle.tq_txn.specs.declared.txn.Txn.TheVariants as states
 use Rattle.tq_txn.proofs.LineLaws.{follows_end, follows_on, follows_off, told_desk, refused_desk, further}
-use Rattle.std.specs.List.{All, Contains, list_any}
+use Rattle.tq_txn.specs.declared.txn.Txn.TheVariants as states
 use Rattle.tq_evidence.specs.declared.vote.Vote.{Vote}
 use Rattle.tq_asks.specs.declared.ask.{NodeAsk.NodeAsk, NodeAsk.TheVariants.Work, NodeReply.NodeReply, Verdict.Verdict}
 use Rattle.tq_asks.specs.declared.ask.{NodeReply.TheVariants.Yes, WorkAsk.TheVariants.Prepare}

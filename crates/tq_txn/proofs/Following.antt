@@ -9,9 +9,9 @@ use Rattle.tq_txn.specs.declared.txn.Txn.TheVariants as states
 use Rattle.tq_txn.specs.declared.{asker.Exchange.Exchange, asker.ViewTold.ViewTold, fault.LineFault.LineFault}
 use Rattle.tq_txn.specs.Dialogue.{Dialogue, Ends, Follows, LineEnd, then_line, ended_by, line_result}
 use Rattle.tq_txn.specs.Script.{closing, commit_asked, given_up, is_answered, line_asked, mark_asked, script_asked, server_marked, view_wait, voting_asked, was_answered}
+use Rattle.tq_txn.proofs.LineLaws.{begins_then, follows_end, follows_then}
 use Rattle.tq_shape.specs.declared.fault.AskFault.TheVariants as ask_faults
 use Rattle.tq_txn.specs.declared.fault.LineFault.TheVariants as faults
-use Rattle.tq_txn.proofs.LineLaws.{begins_then, follows_end, follows_then}
 use Rattle.tq_live.specs.View.{is_server}
 use Rattle.tq_syntax.specs.declared.script.Line.{Line}
 

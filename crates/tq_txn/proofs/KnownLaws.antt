@@ -7,12 +7,11 @@ use Rattle.tq_desk.specs.declared.ask.DeskAsk.{DeskAsk}
 use Rattle.tq_txn_states.specs.{declared.told.DeskTold.DeskTold, Ended.{EndedView, verdict_in, verdict_by}}
 use Rattle.tq_txn_states.specs.Voting.{VotingView, grant_told, vote_told, IsOpTold, IsVoteTold, CitesOnly, KeepsOnly, VotesOnly}
 use Rattle.tq_txn_states.specs.{declared.told.NodeTold.NodeTold, Open.{OpenView, IsTouched}}
-use Rattle.tq_txn.specs.declared.{asker.Exchange.Exchange, txn.Txn.Txn}
+use Rattle.tq_txn.{specs.declared.{asker.Exchange.Exchange, txn.Txn.Txn}, proofs.LineLaws.further}
 use Rattle.tq_txn.specs.Dialogue.{Dialogue, Follows, desk_exchange, node_exchange}
 use Rattle.tq_txn.specs.Told.{Grown, IsEndTold, EndsAsTold, IsAnswered, answer_in, answers_in, AreTold, IsOpenIn, Knows, CitesTold, CitesSince}
 use Rattle.tq_txn.specs.declared.asker.Exchange.TheVariants as exchanges
 use Rattle.tq_txn.specs.declared.txn.Txn.TheVariants as states
-use Rattle.tq_txn.proofs.LineLaws.{further}
 use Rattle.tq_asks.specs.declared.ask.NodeAsk.{NodeAsk}
 use Rattle.tq_shape.specs.declared.fault.AskFault.{AskFault}
 use Rattle.tq_shape.specs.declared.fault.AskFault.TheVariants as ask_faults

@@ -1,12 +1,10 @@
 -- What was told along a line, one ask or one part of it after another. What was told along a line in which a server
 -- stops.
 use Rattle.std.proofs.Common.{◌≡◌, ◌<◌, ℕ, Bool, false, List, [], ◌∷◌, ◌++◌, Option, Some, None, Result, Ok, Err, refl, sym, ap, ◌∙◌, subst, inl, inr, append_assoc, append-nil, ◌+◌, suc, length, drop, get_or, arith}
-use Rattle.std.proofs.Math.Seq.{drop-cons}
-use Rattle.tq_asks.specs.declared.ask.{NodeAsk.NodeAsk, NodeReply.NodeReply, NodeAsk.TheVariants.CrashIn}
-use Rattle.tq_asks.specs.declared.ask.WorkAsk.{WorkAsk}
+use Rattle.std.{proofs.Math.Seq.drop-cons, specs.{Prelude.{IfOk, OnErr}, Option.option_map, Result.result_ok}}
+use Rattle.tq_asks.specs.declared.ask.{NodeAsk.{NodeAsk, TheVariants.CrashIn}, NodeReply.NodeReply, WorkAsk.WorkAsk}
 use Rattle.tq_desk.specs.declared.ask.{DeskAsk.DeskAsk, DeskReply.DeskReply}
 use Rattle.tq_live.specs.declared.{purpose.Purpose.Purpose, view.ViewAsk.ViewAsk, view.ViewReply.ViewReply}
-use Rattle.std.specs.{Prelude.{IfOk, OnErr}, Option.option_map, Result.result_ok}
 use Rattle.tq_shape.specs.{declared.fault.AskFault.AskFault, Tree.Server}
 use Rattle.tq_shape.specs.declared.fault.AskFault.TheVariants as ask_faults
 use Rattle.tq_txn.specs.declared.{asker.Exchange.Exchange, asker.ViewTold.ViewTold, fault.LineFault.LineFault}

@@ -2,8 +2,7 @@
 use Rattle.std.proofs.Common.{◌≡◌, ◌∙◌, ℕ, Bool, true, false, not, ◌&&◌, ◌||◌, cond, List, [], ◌∷◌, ◌++◌, Option, Some, None, Result, Ok, Err, refl, sym, ap, subst, append_assoc, append-nil}
 use Rattle.std.proofs.lemmas.{Bool.and_from, List.map-append, List.Elements.{All-head, All-tail, All-push}}
 use Rattle.std.specs.{List.{Contains, find, list_any}, Prelude.{IfOk, OnOk}}
-use Rattle.tq_shape.proofs.Options.{map-none}
-use Rattle.tq_shape.specs.Tree.{Server}
+use Rattle.tq_shape.{proofs.Options.map-none, specs.Tree.Server}
 use Rattle.tq_store.specs.Names.{same_name}
 use Rattle.tq_locks.specs.{Locks.is_exclusive, declared.mode.Mode.Mode, declared.mode.Mode.TheVariants.Exclusive}
 use Rattle.tq_coterie.specs.Coterie.{coterie, is_quorum, numbers_of, IsMemberList}

@@ -1,5 +1,5 @@
 -- The lines of a client: what each asks, in order, each as the answers before demand, and what it answers of them.
-use Rattle.std.specs.Prelude.{◌≡◌, ◌==◌, ◌+◌, ℕ, Bool, true, false, List, [], ◌∷◌, ◌++◌, Option, Some, None, OnOk, Result, Ok, Err, if◌then◌else◌}
+use Rattle.std.specs.Prelude.{◌≡◌, ◌==◌, ◌+◌, ℕ, Bool, true, false, List, [], ◌∷◌, ◌++◌, Option, Some, None, IfSome, OnOk, Result, Ok, Err, if◌then◌else◌}
 use Rattle.std.specs.{Global.Vec, List.All}
 use Rattle.tq_shape.specs.declared.fault.AskFault.{AskFault}
 use Rattle.tq_shape.specs.declared.fault.AskFault.TheVariants as ask_faults
@@ -56,7 +56,7 @@ choose_line levels purpose = and_then (view_line (Choose purpose)) (λ none. non
 -- ---- locks at its servers
 
 abbrev pub lock_ask : ℕ → List ℕ → Mode → NodeAsk
-lock_ask txn file mode = Work (Lock txn file mode)
+lock_ask txn file mode = Work (Lock mode txn file)
 
 abbrev pub lock_answer : NodeTold → NodeReply → Result NodeTold LineFault
 lock_answer told (replies.Granted version content) = Ok told
@@ -216,6 +216,10 @@ is_nothing_here reply = false
 abbrev pub release_line : ℕ → ℕ → Bool → Dialogue (LineEnd (Unit {0}) (Unit {0}))
 release_line txn server true = and_then (any_line server (Work (Release txn))) (λ none. none) (λ reply none. line_done tt none)
 release_line txn server false = line_done tt tt
+
+-- the ask that is kept, where there is one, releases the locks of the transaction
+abbrev pub KeepsRelease : ℕ → Option NodeAsk → Type 0
+KeepsRelease txn kept = IfSome kept (λ ask. ask ≡ Work (Release txn))
 
 -- the verdict, and where nothing is prepared there, the release of the locks; whatever is answered
 abbrev pub end_line : EndedView → ℕ → Dialogue (LineEnd (Unit {0}) (Unit {0}))

@@ -113,7 +113,7 @@ pub fn decide<A: Asker>(asker: &mut A, alloc: Global, voting: Voting) -> Decisio
             txn: Txn::Voting(ready.into_voting()),
         },
     };
-    let cited = match ready.citations(alloc) {
+    let cited = match ready.citations(&ask) {
         Ok(cited) => cited,
         Err(_) => return Decision {
             answer: Err(LineFault::Memory),

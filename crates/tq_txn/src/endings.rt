@@ -125,20 +125,37 @@ fn release_at<A: Asker>(
     txn: u64,
     server: ServerId,
     wanted: bool,
+    kept: &mut Option<NodeAsk>,
 ) -> Result<(), LineFault>
-    requires { server.levels ≡ A.levels asker.old }
+    requires of_tree { server.levels ≡ A.levels asker.old }
+    requires kept { spec.KeepsRelease txn kept.old }
     ensures asks { line.Follows (spec.release_line txn server.number wanted)
         (A.told asker.old) (A.told asker.new) (line.ended_by result tt) }
     ensures tree { A.levels asker.new ≡ A.levels asker.old }
+    ensures kept { spec.KeepsRelease txn kept.new }
 {
     if !wanted {
         return Ok(());
     }
-    let ask = NodeAsk::Work(Shared::new(alloc, WorkAsk::Release { txn })?);
+    let ask = release_ask(alloc, txn, kept)?;
     match ask_any(asker, alloc, server, ask) {
         Ok(_) => Ok(()),
         Err(_) => Err(LineFault::Memory),
     }
+}
+
+/// The ask that releases a transaction's locks: once more, where it was made before.
+fn release_ask(alloc: Global, txn: u64, kept: &mut Option<NodeAsk>) -> Result<NodeAsk, Memory>
+    requires { spec.KeepsRelease txn kept.old }
+    ensures ask { IfOk result (λ ask. ask ≡ NodeAsk.Work (WorkAsk.Release txn)) }
+    ensures kept { spec.KeepsRelease txn kept.new }
+{
+    if let Some(ask) = &*kept {
+        return Ok(ask.clone()?);
+    }
+    let ask = NodeAsk::Work(Shared::new(alloc, WorkAsk::Release { txn })?);
+    *kept = Some(ask.clone()?);
+    Ok(ask)
 }
 
 /// The ask that tells the verdict, once more.
@@ -157,19 +174,29 @@ fn end_at<A: Asker>(
     alloc: Global,
     ended: &Ended,
     decide: &NodeAsk,
+    release: &mut Option<NodeAsk>,
     server: ServerId,
 ) -> Result<(), LineFault>
     requires of_tree { server.levels ≡ A.levels asker.old }
     requires told { IsEndTold (A.told asker.old) ended.now }
     requires decide { decide.now ≡ decide_ask ended.now }
+    requires release { spec.KeepsRelease ended.now.txn release.old }
     ensures asks { line.Follows (spec.end_line ended.now server.number)
         (A.told asker.old) (A.told asker.new) (line.ended_by result tt) }
     ensures tree { A.levels asker.new ≡ A.levels asker.old }
+    ensures release { spec.KeepsRelease ended.now.txn release.new }
 {
     let ask = decide_again(ended, decide)?;
     let told = asker.tell(alloc, server, ask);
     match any_answer(told) {
-        Ok(reply) => release_at(asker, alloc, ended.txn(), server, is_nothing_here(&reply)),
+        Ok(reply) => release_at(
+            asker,
+            alloc,
+            ended.txn(),
+            server,
+            is_nothing_here(&reply),
+            release,
+        ),
         Err(_) => Err(LineFault::Memory),
     }
 }
@@ -190,8 +217,9 @@ fn end_by<A: Asker>(
         (A.told asker.old) (A.told asker.new) (line.ended_by result tt) }
     ensures tree { A.levels asker.new ≡ A.levels asker.old }
 {
+    let mut release = None;
     for server in servers {
-        end_at(asker, alloc, ended, decide, *server)?;
+        end_at(asker, alloc, ended, decide, &mut release, *server)?;
     }
     Ok(())
 }

@@ -10,10 +10,9 @@ use Rattle.tq_desk.specs.declared.ask.DeskAsk.TheVariants.{Commit}
 use Rattle.tq_evidence.specs.declared.{grant.Grant.Grant, op.Op.Op, op.OpKind.OpKind, vote.Vote.Vote}
 use Rattle.tq_evidence.specs.Evidence.{writes_file}
 use Rattle.tq_evidence.specs.declared.op.OpKind.TheVariants as kinds
-use Rattle.tq_txn_states.specs.declared.told.NodeTold.{NodeTold}
+use Rattle.tq_txn_states.{specs.declared.told.NodeTold.NodeTold, proofs.GoodGrants.{any_fit, grants_again}}
 use Rattle.tq_txn_states.specs.Voting.{grant_told, answers_of, vote_told, AddsOnly, AddsVote, CitesOnly, IsOpTold, IsVoteTold, KeepsOnly, VotesOnly, VotingView, voted_by, vote_of, with_vote, voting_of, evidence_of, has_vote, is_of_server, txn_after_vote, vote_after}
 use Rattle.tq_txn_states.specs.Open.{OpenView, fits, granted_by, grant_of, grants_of, txn_after_op, txn_after_rewrite, put, with_first_changed}
-use Rattle.tq_txn_states.proofs.GoodGrants.{any_fit, grants_again}
 
 -- ---- lists
 
@@ -50,14 +49,14 @@ vote_more txn told more vote is = (is.0, Contains-append_left told more (vote_to
 -- ---- a grant is an answer
 
 granted_is : (kind : OpKind) (txn : ℕ) (file : List ℕ) (server number : ℕ) (ask : NodeAsk) (reply : NodeReply) (grant : Grant) → granted_by kind txn file server number ask reply ≡ Some grant → record { server = server; number = number; ask = ask; reply = reply } ≡ grant_told txn file grant
-granted_is kind txn file server number (Work (Lock locker locked mode)) (Granted version content) grant is =
-    elim (locker == txn && same_name locked file && fits kind mode) as (λ b. (locker == txn && same_name locked file && fits kind mode) ≡ b → cond b (Some (record { server = server; number = number; mode = mode; version = version; content = content })) None ≡ Some grant → record { server = server; number = number; ask = Work (Lock locker locked mode); reply = Granted version content } ≡ grant_told txn file grant) [
+granted_is kind txn file server number (Work (Lock mode locker locked)) (Granted version content) grant is =
+    elim (locker == txn && same_name locked file && fits kind mode) as (λ b. (locker == txn && same_name locked file && fits kind mode) ≡ b → cond b (Some (record { server = server; number = number; mode = mode; version = version; content = content })) None ≡ Some grant → record { server = server; number = number; ask = Work (Lock mode locker locked); reply = Granted version content } ≡ grant_told txn file grant) [
       | true ↦ λ test e.
           let parts = and_parts (locker == txn && same_name locked file) (fits kind mode) test in
           let both = and_parts (locker == txn) (same_name locked file) parts.0 in
           let by = eqb-true locker txn both.0 in
           let on = same_text locked file (sym both.1) in
-          (λ i. record { server = server; number = number; ask = Work (Lock (by i) (on i) mode); reply = Granted version content }) ∙ ap (grant_told txn file) (some_is _ grant e)
+          (λ i. record { server = server; number = number; ask = Work (Lock mode (by i) (on i)); reply = Granted version content }) ∙ ap (grant_told txn file) (some_is _ grant e)
       | false ↦ λ test e. cc
     ] refl is
 granted_is kind txn file server number ask reply grant is = cc

@@ -6,13 +6,11 @@ use Rattle.std.proofs.lemmas.List.Folds.{list_all-append}
 use Rattle.std.specs.{Cmp.Lexicographic.{pointwise, nat_list_cmp_total}, List.{list_all, list_any}}
 use Rattle.std.specs.{FinMap.{slice_cmp-IsAntisymmetric, nat_cmp-IsAntisymmetric}, Ordering.{is_lt, is_eq, is_gt}}
 use Rattle.std.specs.declared.cmp.{Ordering.Ordering, Ordering.TheVariants.{Less, Equal, Greater}}
-use Rattle.tq_store.specs.{declared.write.Write.Write, Names.same_name, Copies.name_cmp}
-use Rattle.tq_store.proofs.Padded.{same_name-is}
+use Rattle.tq_store.{specs.{declared.write.Write.Write, Names.same_name, Copies.name_cmp}, proofs.Padded.same_name-is}
 use Rattle.tq_evidence.specs.declared.{op.Op.Op, grant.Grant.Grant, rule.Rule.Rule, vote.Vote.Vote}
 use Rattle.tq_evidence.specs.Evidence.{is_write_of, are_writes_at, has_server, is_write, covers, is_grant_covered, is_covered, are_grants_covered, are_covered, is_server_of, put_op, writes_by_file, have_writes, stands_before, ops_rise, rule_unless, IsGood}
 use Rattle.tq_txn_states.specs.Voting.{write_in, writes_at, writes_in, writes_all_at, VotingView, IsVoting, covers_grant, covers_op, has_vote, has_votes}
-use Rattle.tq_txn_states.specs.Open.{IsOpen}
-use Rattle.tq_txn_states.proofs.{Searched.has-all, Puts.{insert_before, put-last}}
+use Rattle.tq_txn_states.{specs.Open.IsOpen, proofs.{Searched.has-all, Puts.{insert_before, put-last}}}
 
 write-is : (write : Write) (op : Op) → is_write_of write op ≡ true → write ≡ write_in op
 write-is write op is =

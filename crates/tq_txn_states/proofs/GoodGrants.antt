@@ -6,15 +6,15 @@ use Rattle.std.proofs.lemmas.{List.{get_or-map, length-map}, Map.Views.Contains-
 use Rattle.std.specs.{List.{Contains, list_all, find, cons_option, list_any}, Option.option_map}
 use Rattle.std.specs.Cmp.Lexicographic.{same_text, nat_list_eq_equiv}
 use Rattle.tq_coterie.specs.Coterie.{coterie, is_quorum, servers_of, numbers_of, IsMemberList}
+use Rattle.tq_coterie.proofs.{Members.members-meet, Marked.tested, Parts.{Ascends-member, member-servers}}
 use Rattle.tq_shape.specs.{Tree.{Server, IsServer}, Journal.{refuse, refuse_for, or_else}}
 use Rattle.tq_evidence.specs.Evidence.{rises, granters, is_exclusively_granted, greatest, newest, has_version}
 use Rattle.tq_evidence.specs.declared.{grant.Grant.Grant, op.OpKind.OpKind, op.OpKind.TheVariants.{Read, Write}}
-use Rattle.tq_coterie.proofs.{Members.members-meet, Marked.tested, Parts.{Ascends-member, member-servers}}
 use Rattle.tq_txn_states.proofs.Searched.{rises-ascends}
-use Rattle.tq_store.specs.Names.{same_name}
 use Rattle.tq_txn_states.specs.{declared.told.NodeTold.NodeTold, Voting.{grant_told, answers_of}}
 use Rattle.tq_txn_states.specs.declared.fault.TxnFault.TheVariants.{AlreadyThere, TooManyOps, NotAGrant, NotAMember}
 use Rattle.tq_txn_states.specs.Open.{OpenView, fits, grant_of, grants_of, not_a_grant, is_member, is_used, is_written, has_all_ops, grants_fault, read_fault, version_fault, write_fault, IsGoodOp, granted_by, read_op, write_op, copy_in}
+use Rattle.tq_store.specs.Names.{same_name}
 use Rattle.tq_locks.specs.{Locks.is_exclusive, declared.mode.Mode.Mode}
 use Rattle.tq_asks.specs.declared.ask.{NodeAsk.NodeAsk, NodeAsk.TheVariants.Work, NodeReply.NodeReply}
 use Rattle.tq_asks.specs.declared.ask.{NodeReply.TheVariants.Granted, WorkAsk.TheVariants.Lock}
@@ -209,7 +209,7 @@ exclusive_if server number version content mode true =
 exclusive_if server number version content mode false = refl
 
 exclusive_granted : (txn : ℕ) (file : List ℕ) (server number : ℕ) (ask : NodeAsk) (reply : NodeReply) → exclusive_in (granted_by Write txn file server number ask reply) ≡ true
-exclusive_granted txn file server number (Work (Lock locker locked mode)) (Granted version content) = exclusive_if server number version content mode (locker == txn && same_name locked file)
+exclusive_granted txn file server number (Work (Lock mode locker locked)) (Granted version content) = exclusive_if server number version content mode (locker == txn && same_name locked file)
 exclusive_granted txn file server number ask reply = refl
 
 exclusive_more : (found : Option Grant) (rest : List Grant) → exclusive_in found ≡ true → list_all (λ grant. is_exclusive grant.mode) rest ≡ true → list_all (λ grant. is_exclusive grant.mode) (cons_option found rest) ≡ true

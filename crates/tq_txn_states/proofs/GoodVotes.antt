@@ -1,19 +1,17 @@
 -- The vote that an answer tells of, by the ask. A vote that is put in takes away no other server's. A vote put at its
 -- place, and what a list of votes keeps.
 use Rattle.std.proofs.Common.{◌≡◌, ℕ, true, false, List, Option, Some, None, Result, Ok, Err, refl, ◌==◌, Bool, ◌||◌, cond, [], ◌∷◌, nat_lt, subst, not, ◌&&◌, map, set, length, slice_get, ◌≤◌, sym, ap, ◌∙◌}
-use Rattle.std.proofs.lemmas.Bool.{false≢true, eqb-true, or_right}
-use Rattle.std.specs.{Prelude.IfErr, List.{list_all, insert, find}, List.Sorted.IsPartitionPoint}
-use Rattle.std.specs.Option.{option_map, option_map_or}
+use Rattle.std.{proofs.lemmas.Bool.{false≢true, eqb-true, or_right}, specs.Prelude.IfErr}
+use Rattle.std.specs.{List.{list_all, insert, find, Sorted.IsPartitionPoint}, Option.{option_map, option_map_or}}
 use Rattle.tq_store.specs.declared.write.Write.{Write}
 use Rattle.tq_asks.specs.declared.ask.{HeldLock.HeldLock, NodeAsk.NodeAsk, NodeAsk.TheVariants.Work}
 use Rattle.tq_asks.specs.declared.ask.{NodeReply.NodeReply, NodeReply.TheVariants.Yes, WorkAsk.TheVariants.Prepare}
-use Rattle.tq_txn_states.specs.declared.fault.{TxnFault.TxnFault, TxnFault.TheVariants.Memory}
-use Rattle.tq_txn_states.specs.Open.{ComesOf, put, with_first_changed}
+use Rattle.tq_txn_states.specs.declared.fault.TxnFault.{TxnFault, TheVariants.Memory}
+use Rattle.tq_txn_states.{specs.Open.{ComesOf, put, with_first_changed}, proofs.Puts.{list_all-put, list_all-changed}}
 use Rattle.tq_txn_states.specs.Voting.{is_prepare_of, voted_by, KeepsVotes, has_vote, is_of_server, with_vote, VotingView, covers_op, writes_in, lost_file, IsVoting, IsGoodVote}
+use Rattle.tq_txn_states.proofs.Searched.{has-map, map-put, rises-with_server, found_at, put_at, changed_at}
 use Rattle.tq_evidence.specs.declared.{vote.Vote.Vote, op.Op.Op}
 use Rattle.tq_evidence.specs.Evidence.{rises, votes_rise, has_writes, is_server_of}
-use Rattle.tq_txn_states.proofs.Searched.{has-map, map-put, rises-with_server, found_at, put_at, changed_at}
-use Rattle.tq_txn_states.proofs.Puts.{list_all-put, list_all-changed}
 
 pub cast_none : (txn server number : ℕ) (ask : NodeAsk) (reply : NodeReply) → is_prepare_of txn ask ≡ false → voted_by txn server number ask reply ≡ None
 cast_none txn server number (Work (Prepare voter asked)) (Yes held writes) none = rw none refl

@@ -3,15 +3,13 @@
 use Rattle.std.proofs.Common.{◌≡◌, ℕ, ◌-◌, ◌<◌, Bool, true, false, ◌&&◌, ◌||◌, ◌==◌, cond, List, [], ◌∷◌, Some, length, take, drop, slice_get, nat_lt, map, refl, sym, ap, ◌∙◌, subst, arith, zero, suc, ◌≤◌, set, get_or, not, Option}
 use Rattle.std.proofs.{Math.Bool.{or_assoc, or_comm, or-false, and-true}, lemmas.Bool.Decides.nat_tests}
 use Rattle.std.proofs.lemmas.Bool.{and_parts, and_from, eqb-true, lt-ltb, or_parts, or_right, false≢true, or_left, eq-eqb, le-ltb}
-use Rattle.std.proofs.lemmas.Option.{none-some}
-use Rattle.std.specs.{List.{list_all, list_any, insert}, List.Sorted.{IsPartitionPoint, IsPartitionedBy}}
-use Rattle.std.specs.Option.{option_map_or}
+use Rattle.std.{proofs.lemmas.Option.none-some, specs.{List.{list_all, list_any, insert}, Option.option_map_or}}
+use Rattle.std.specs.List.Sorted.{IsPartitionPoint, IsPartitionedBy}
 use Rattle.tq_shape.specs.{ServerSet.Ascends, Tree.Server}
-use Rattle.tq_coterie.specs.Coterie.{has, numbers_of, with_server, is_quorum}
-use Rattle.tq_coterie.proofs.Sets.{has-with_server}
-use Rattle.tq_evidence.specs.Evidence.{rises, covers, granters, servers_of, has_quorum, are_quorums}
+use Rattle.tq_coterie.{specs.Coterie.{has, numbers_of, with_server, is_quorum}, proofs.Sets.has-with_server}
+use Rattle.tq_evidence.specs.Evidence.{rises, covers, granters, servers_of, has_quorum, are_quorums, are_in_order}
 use Rattle.tq_evidence.specs.declared.{grant.Grant.Grant, op.Op.Op, vote.Vote.Vote}
-use Rattle.tq_txn_states.specs.Open.{IsWithin, put, with_number, with_numbers, with_first_changed, have_order}
+use Rattle.tq_txn_states.specs.Open.{IsWithin, put, with_number, with_numbers, with_first_changed}
 use Rattle.tq_txn_states.specs.Voting.{covers_grant, is_granter_at}
 
 absorbed : (a b : Bool) → (a ≡ true → b ≡ true) → b ≡ (a || b)
@@ -286,12 +284,12 @@ one_covers vote file (first ∷ rest) (suc place) grant up at same =
     one_covers vote file rest place grant (rises_rest first.server (granters rest) up) at same ∙ ap (λ b. b && list_all (covers_grant vote file) rest) (sym here)
 
 -- the servers of operations that are of quorums ascend
-pub quorums-order : (levels : ℕ) (ops : List Op) → are_quorums levels ops ≡ true → have_order ops ≡ true
+pub quorums-order : (levels : ℕ) (ops : List Op) → are_quorums levels ops ≡ true → are_in_order ops ≡ true
 quorums-order levels [] are = refl
 quorums-order levels (op ∷ ops) are =
     let parts = and_parts (has_quorum levels op) (are_quorums levels ops) are in
     let first = and_parts (rises (servers_of op)) (is_quorum levels (servers_of op)) parts.0 in
-    and_from (rises (servers_of op)) (have_order ops) first.0 (quorums-order levels ops parts.1)
+    and_from (rises (servers_of op)) (are_in_order ops) first.0 (quorums-order levels ops parts.1)
 
 -- ---- the place of a server's grant
 

@@ -1,11 +1,9 @@
 -- A transaction that ended, and how.
 use Rattle.std.specs.Prelude.{◌≡◌, ◌==◌, ℕ, List, Option, Some, None, if◌then◌else◌}
-use Rattle.tq_asks.specs.declared.ask.{NodeAsk.NodeAsk, NodeAsk.TheVariants.Work, Verdict.Verdict}
-use Rattle.tq_asks.specs.declared.ask.WorkAsk.TheVariants.{Decide}
+use Rattle.tq_asks.specs.declared.ask.{NodeAsk.{NodeAsk, TheVariants.Work}, Verdict.Verdict, WorkAsk.TheVariants.Decide}
 use Rattle.tq_asks.specs.declared.ask.Verdict.TheVariants as verdicts
-use Rattle.tq_desk.specs.declared.ask.{DeskAsk.DeskAsk, DeskAsk.TheVariants.{Begin, Commit, Resolve}}
-use Rattle.tq_desk.specs.declared.ask.{DeskReply.DeskReply, DeskRefusal.TheVariants.Decided}
-use Rattle.tq_desk.specs.DeskStep.{cited_votes}
+use Rattle.tq_desk.specs.declared.ask.{DeskAsk.{DeskAsk, TheVariants.{Begin, Commit, Resolve}}, DeskReply.DeskReply}
+use Rattle.tq_desk.specs.{declared.ask.DeskRefusal.TheVariants.Decided, DeskStep.cited_votes}
 use Rattle.tq_desk.specs.declared.ask.DeskReply.TheVariants as replies
 use Rattle.tq_evidence.specs.declared.vote.Vote.{Vote}
 use Rattle.tq_txn_states.specs.{declared.told.DeskTold.DeskTold, declared.fault.TxnFault.TxnFault, Open.OpenView}

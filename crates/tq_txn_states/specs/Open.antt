@@ -6,8 +6,7 @@ use Rattle.std.specs.{Option.{unwrap_or, option_map}, List.{list_all, list_any, 
 use Rattle.tq_shape.specs.{Tree.Server, Limits.LimitsView, Journal.{refuse, refuse_for, or_else, is_empty}}
 use Rattle.tq_coterie.specs.Coterie.{has, with_server, numbers_of, is_quorum}
 use Rattle.tq_evidence.specs.Evidence.{rises, is_write, servers_of, greatest, newest, is_server_of, ops_rise, are_quorums, are_exclusive, are_versions, has_quorum, has_exclusive_grants, has_version, writes_file, granters}
-use Rattle.tq_evidence.specs.declared.{grant.Grant.Grant, op.Op.Op, op.OpKind.OpKind}
-use Rattle.tq_evidence.specs.declared.op.OpKind.TheVariants.{Read, Write}
+use Rattle.tq_evidence.specs.declared.{grant.Grant.Grant, op.{Op.Op, OpKind.{OpKind, TheVariants.{Read, Write}}}}
 use Rattle.tq_store.specs.{Copies.name_cmp, declared.copies.FileCopy.FileCopy, Names.same_name}
 use Rattle.tq_locks.specs.{Locks.is_exclusive, declared.mode.Mode.Mode}
 use Rattle.tq_asks.specs.declared.ask.{NodeAsk.NodeAsk, NodeAsk.TheVariants.Work, NodeReply.NodeReply}
@@ -89,10 +88,6 @@ pub record IsOpen (open_txn : OpenView) : Type 0 where
   pub versions : are_versions open_txn.ops ≡ true
   pub voters : HasVoters open_txn
 
--- the servers of each operation ascend
-abbrev pub have_order : List Op → Bool
-have_order ops = list_all (λ op. rises (servers_of op)) ops
-
 abbrev pub has_all_ops : OpenView → Bool
 has_all_ops old = nat_le old.limits.ops (length old.ops)
 
@@ -116,7 +111,7 @@ fits Write mode = is_exclusive mode
 
 -- the grant that an answer tells of: a lock of the transaction on the file, of a mode that fits
 abbrev pub granted_by : OpKind → ℕ → List ℕ → ℕ → ℕ → NodeAsk → NodeReply → Option Grant
-granted_by kind txn file server number (Work (Lock locker locked mode)) (Granted version content) =
+granted_by kind txn file server number (Work (Lock mode locker locked)) (Granted version content) =
     if locker == txn && same_name locked file && fits kind mode then Some (record { server = server; number = number; mode = mode; version = version; content = content }) else None
 granted_by kind txn file server number ask reply = None
 

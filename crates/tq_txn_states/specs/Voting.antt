@@ -153,7 +153,7 @@ pub record IsVotedOn (old after : VotingView) : Type 0 where
 -- the answer of a server that granted the transaction this lock on the file
 abbrev pub grant_told : ℕ → List ℕ → Grant → NodeTold
 grant_told txn file grant =
-    record { server = grant.server; number = grant.number; ask = Work (Lock txn file grant.mode); reply = Granted grant.version grant.content }
+    record { server = grant.server; number = grant.number; ask = Work (Lock grant.mode txn file); reply = Granted grant.version grant.content }
 
 -- the answers of the servers that granted the transaction these locks on the file
 abbrev pub answers_of : ℕ → List ℕ → List Grant → List NodeTold

@@ -2,6 +2,7 @@
 
 ghost use Rattle.std.specs.Prelude.{◌≡◌, true, IfOk};
 ghost use Rattle.tq_coterie.specs.Coterie.{numbers_of};
+ghost use Rattle.tq_evidence.specs.Evidence.{are_in_order};
 ghost use Rattle.tq_txn_states.specs.Ended as ending;
 ghost use Rattle.tq_txn_states.specs.Open as spec;
 
@@ -68,7 +69,7 @@ impl Closed {
     pub fn ops(&self) -> &[Op]
         ensures value { result.now ≡ self.now.ops }
         ensures good { spec.IsOpen self.now }
-        ensures order { spec.have_order result.now ≡ true }
+        ensures order { are_in_order result.now ≡ true }
     {
         self.ops.as_slice()
     }

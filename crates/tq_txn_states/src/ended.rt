@@ -11,7 +11,7 @@ use crate::{DeskTold, TxnFault};
 use std::alloc::Global;
 use std::marker::Model;
 use tq_asks::{NodeAsk, Verdict, WorkAsk};
-use tq_desk::{DeskAsk, DeskRefusal, DeskReply, Vote, cited_votes};
+use tq_desk::{Ballot, DeskAsk, DeskRefusal, DeskReply};
 use tq_shape::{Levels, Memory, ServerId, Shared};
 
 /// A transaction that has ended.
@@ -121,18 +121,18 @@ impl Ended {
 }
 
 /// The verdict on a transaction that an answer of the desk tells, once more; with none the answer does not end it.
-pub(crate) fn verdict_of(alloc: Global, txn: u64, told: &DeskTold) -> Result<Verdict, TxnFault>
+pub(crate) fn verdict_of(txn: u64, told: &DeskTold) -> Result<Verdict, TxnFault>
     ensures value { IfOk result (λ verdict. spec.verdict_in txn told.now ≡ Some verdict) }
     ensures fault { IfErr result (ComesOf (spec.fault_without (spec.verdict_in txn told.now))) }
 {
-    match verdict_in(alloc, txn, told)? {
+    match verdict_in(txn, told)? {
         Some(verdict) => Ok(verdict),
         None => Err(TxnFault::NotMyVerdict),
     }
 }
 
 /// The verdict on a transaction that an answer of the desk tells.
-fn verdict_in(alloc: Global, txn: u64, told: &DeskTold) -> Result<Option<Verdict>, Memory>
+fn verdict_in(txn: u64, told: &DeskTold) -> Result<Option<Verdict>, Memory>
     ensures { IfOk result (λ verdict. verdict ≡ spec.verdict_in txn told.now) }
 {
     match &told.ask {
@@ -145,7 +145,7 @@ fn verdict_in(alloc: Global, txn: u64, told: &DeskTold) -> Result<Option<Verdict
             if *asked != txn {
                 return Ok(None);
             }
-            commit_verdict(alloc, votes.as_slice(), &told.reply)
+            commit_verdict(votes, &told.reply)
         }
         DeskAsk::Resolve { txn: asked } => {
             if *asked != txn {
@@ -157,16 +157,12 @@ fn verdict_in(alloc: Global, txn: u64, told: &DeskTold) -> Result<Option<Verdict
 }
 
 /// The verdict that an answer to a commit tells.
-fn commit_verdict(
-    alloc: Global,
-    votes: &[Vote],
-    reply: &DeskReply,
-) -> Result<Option<Verdict>, Memory>
+fn commit_verdict(votes: &Ballot, reply: &DeskReply) -> Result<Option<Verdict>, Memory>
     ensures { IfOk result (λ verdict. verdict ≡ spec.commit_verdict votes.now reply.now) }
 {
     match reply {
         DeskReply::Committed { .. } => Ok(Some(Verdict::Commit {
-            votes: cited_votes(alloc, votes)?,
+            votes: votes.cited()?,
         })),
         DeskReply::Refused(DeskRefusal::Decided(verdict)) => Ok(Some(verdict.clone()?)),
         _ => Ok(None),

@@ -106,7 +106,7 @@ impl Open {
     pub fn ops(&self) -> &[Op]
         ensures value { result.now ≡ self.now.ops }
         ensures good { spec.IsOpen self.now }
-        ensures order { spec.have_order result.now ≡ true }
+        ensures order { evidence.are_in_order result.now ≡ true }
     {
         self.ops.as_slice()
     }
@@ -321,11 +321,11 @@ impl Open {
     }
 
     /// Ends the transaction by the desk's verdict on it, and hands it back after a fault.
-    pub fn end(self, alloc: Global, told: &DeskTold) -> Result<Ended, (Open, TxnFault)>
+    pub fn end(self, told: &DeskTold) -> Result<Ended, (Open, TxnFault)>
         ensures value { IfOk result (λ ended. ending.IsEnd self told.now ended) }
         ensures fault { IfErr result (IsBack self (ComesOf (ending.end_fault self told.now))) }
     {
-        match verdict_of(alloc, self.txn(), told) {
+        match verdict_of(self.txn(), told) {
             Ok(verdict) => Ok(self.end_by(verdict, told.number)),
             Err(fault) => Err((self, fault)),
         }

@@ -12,8 +12,8 @@ use crate::{DeskTold, Ended, NodeTold, TxnFault, Voting};
 use std::alloc::Global;
 use std::marker::Model;
 use tq_asks::{CitedVote, Verdict};
-use tq_desk::{DeskAsk, cited_votes};
-use tq_shape::{ExactClone, Memory, SharedSeq};
+use tq_desk::{Ballot, DeskAsk, Vote};
+use tq_shape::{Memory, SharedSeq};
 
 /// A transaction with the votes of all its voters.
 pub struct Ready {
@@ -73,7 +73,7 @@ impl Ready {
         let txn = self.voting.txn();
         let all_votes = self.voting.votes();
         let ops = txn.shared_ops()?;
-        let votes = copy_of(alloc, all_votes)?;
+        let votes = ballot_of(alloc, all_votes)?;
         Ok(DeskAsk::Commit {
             txn: txn.txn(),
             ops,
@@ -81,21 +81,25 @@ impl Ready {
         })
     }
 
-    /// The votes as the commit's record cites them: made before the commit is asked for, so that the answer takes no
-    /// memory.
+    /// The votes as the record of the commit to ask for cites them: taken before it is asked for, so that the answer takes
+    /// no memory.
     #[inline(always)]
-    pub fn citations(&self, alloc: Global) -> Result<SharedSeq<CitedVote>, Memory>
+    pub fn citations(&self, ask: &DeskAsk) -> Result<SharedSeq<CitedVote>, Memory>
+        requires { ask.now ≡ spec.evidence_of self.now }
         ensures { IfOk result (λ list. list ≡ log.cited_votes self.now.votes) }
     {
-        cited_votes(alloc, self.voting.votes())
+        match ask {
+            DeskAsk::Commit { votes, .. } => votes.cited(),
+            _ => unreachable!(),
+        }
     }
 
     /// Ends the transaction by the desk's verdict on it, and hands it back after a fault.
-    pub fn end(self, alloc: Global, told: &DeskTold) -> Result<Ended, (Ready, TxnFault)>
+    pub fn end(self, told: &DeskTold) -> Result<Ended, (Ready, TxnFault)>
         ensures value { IfOk result (λ ended. ending.IsEnd self.txn told.now ended) }
         ensures fault { IfErr result (IsBack self (ComesOf (ending.end_fault self.txn told.now))) }
     {
-        match verdict_of(alloc, self.voting.txn().txn(), told) {
+        match verdict_of(self.voting.txn().txn(), told) {
             Ok(verdict) => Ok(self.end_by(verdict, told.number)),
             Err(fault) => Err((self, fault)),
         }
@@ -109,10 +113,10 @@ impl Ready {
     }
 }
 
-/// The list of these values, once more.
+/// The votes, once more, as a ballot.
 #[inline(always)]
-fn copy_of<T: ExactClone>(alloc: Global, items: &[T]) -> Result<SharedSeq<T>, Memory>
-    ensures { IfOk result (λ list. list ≡ items.now) }
+fn ballot_of(alloc: Global, votes: &[Vote]) -> Result<Ballot, Memory>
+    ensures { IfOk result (λ ballot. ballot ≡ votes.now) }
 {
-    Ok(SharedSeq::from_vec(Vec::from_clones(alloc, items)?)?)
+    Ballot::new(alloc, Vec::from_clones(alloc, votes)?)
 }

@@ -4,7 +4,6 @@ ghost use Rattle.std.specs.Prelude.{◌≡◌, ◌==◌, ◌<◌, ◌≤◌, is_
 ghost use Rattle.std.specs.{List.{list_all, list_any}, List.Sorted.IsPartitionPoint};
 ghost use Rattle.std.specs.Option.{option_copied, option_map, option_map_or};
 ghost use Rattle.tq_evidence.specs.Evidence as evidence;
-ghost use Rattle.tq_txn_states.specs.Open as open_spec;
 ghost use Rattle.tq_txn_states.specs.Voting as spec;
 ghost use Rattle.tq_txn_states.specs.Voting.{is_of_server};
 
@@ -67,7 +66,7 @@ fn is_prepare_of(txn: u64, ask: &NodeAsk) -> bool
 
 /// Where the server's grant stands in the first operation that has one: likely at the place.
 pub(crate) fn place_of_server(ops: &[Op], server: u64, likely: usize) -> Option<usize>
-    requires { open_spec.have_order ops.now ≡ true }
+    requires { evidence.are_in_order ops.now ≡ true }
     ensures { is_some result ≡ evidence.is_server_of ops.now server }
 {
     match ops {
@@ -121,7 +120,7 @@ fn has_server_at(op: &Op, server: u64, likely: usize) -> bool
 /// What the operations write at a server, by file.
 #[inline(always)]
 pub(crate) fn writes_at(alloc: Global, ops: &[Op], server: u64) -> Result<SharedSeq<Write>, Memory>
-    requires { open_spec.have_order ops.now ≡ true }
+    requires { evidence.are_in_order ops.now ≡ true }
     ensures { IfOk result (λ writes. writes ≡ spec.writes_at ops.now server) }
 {
     let mut writes = Vec::new(alloc);
@@ -146,7 +145,7 @@ fn write_in(op: &Op) -> Result<Write, Memory>
 
 /// Whether the ask is the one for the server's vote.
 pub(crate) fn is_ask_at(ask: &NodeAsk, txn: u64, ops: &[Op], server: u64) -> bool
-    requires { open_spec.have_order ops.now ≡ true }
+    requires { evidence.are_in_order ops.now ≡ true }
     ensures { IsTrue result
         → ask.now ≡ NodeAsk.Work (WorkAsk.Prepare txn (spec.writes_at ops.now server)) }
 {
@@ -164,7 +163,7 @@ pub(crate) fn is_ask_at(ask: &NodeAsk, txn: u64, ops: &[Op], server: u64) -> boo
 
 /// Whether all that the operations write, they write at the server: its grants likely stand at the place.
 pub(crate) fn writes_all_at(ops: &[Op], server: u64, place: usize) -> bool
-    requires { open_spec.have_order ops.now ≡ true }
+    requires { evidence.are_in_order ops.now ≡ true }
     ensures { result ≡ spec.writes_all_at ops.now server }
 {
     match ops {
@@ -181,7 +180,7 @@ pub(crate) fn writes_all_at(ops: &[Op], server: u64, place: usize) -> bool
 /// Whether the writes voted are those of the operations at the server: its grants likely stand at the place.
 #[inline(always)]
 pub(crate) fn are_writes_at(server: u64, voted: &[Write], ops: &[Op], place: usize) -> bool
-    requires { open_spec.have_order ops.now ≡ true }
+    requires { evidence.are_in_order ops.now ≡ true }
     ensures { result ≡ evidence.are_writes_at server voted.now (spec.writes_in ops.now) }
 {
     match ops {
@@ -204,7 +203,7 @@ pub(crate) fn are_writes_at(server: u64, voted: &[Write], ops: &[Op], place: usi
 /// vote's locks where the operations stand.
 #[inline(always)]
 pub(crate) fn lost_file<'a>(ops: &'a [Op], vote: &Vote, place: usize) -> Option<&'a FileName>
-    requires { open_spec.have_order ops.now ≡ true }
+    requires { evidence.are_in_order ops.now ≡ true }
     ensures { option_copied result ≡ spec.lost_file ops.now vote.now }
 {
     let mut lock = 0;

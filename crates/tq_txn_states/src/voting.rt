@@ -254,11 +254,11 @@ impl Voting {
     }
 
     /// Ends the transaction by the desk's verdict on it, and hands it back after a fault.
-    pub fn end(self, alloc: Global, told: &DeskTold) -> Result<Ended, (Voting, TxnFault)>
+    pub fn end(self, told: &DeskTold) -> Result<Ended, (Voting, TxnFault)>
         ensures value { IfOk result (λ ended. ending.IsEnd self.txn told.now ended) }
         ensures fault { IfErr result (IsBack self (ComesOf (ending.end_fault self.txn told.now))) }
     {
-        match verdict_of(alloc, self.txn.txn(), told) {
+        match verdict_of(self.txn.txn(), told) {
             Ok(verdict) => Ok(self.end_by(verdict, told.number)),
             Err(fault) => Err((self, fault)),
         }

@@ -37,7 +37,7 @@ impl Node {
             WorkAsk::Release { txn } => self.release_refusal(*txn),
             WorkAsk::Peek { .. } => None,
             WorkAsk::Refresh { file, version, .. } => {
-                if *version <= self.copies.get(file).version {
+                if *version <= self.copies.get(file.get()).version {
                     Some(NodeRefusal::NotNewer)
                 } else {
                     None

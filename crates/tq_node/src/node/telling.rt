@@ -1,5 +1,5 @@
 //! Asks that are answered at once, with no plan of their change, and their replies told twice.
-ghost use Rattle.std.specs.Prelude.{◌≡◌, ◌<◌, [], false, OnOk, OnErr, IfOk};
+ghost use Rattle.std.specs.Prelude.{◌≡◌, ◌<◌, false, OnOk, OnErr, IfOk};
 ghost use Rattle.tq_node.specs.Node as node;
 ghost use Rattle.tq_node.specs.Telling.{IsEndTold, IsLockTold, IsTold, IsVoteTold, IsWorkTold, KeepsUntold, ReachesTold};
 
@@ -71,7 +71,7 @@ impl Node {
         Ok(Telling {
             entered: NodeReply::Crashed,
             told: NodeReply::Crashed,
-            raised: Raised::nothing(),
+            raised: Raised::Nothing,
         })
     }
 
@@ -90,7 +90,7 @@ impl Node {
         Ok(Telling {
             entered: NodeReply::Returned,
             told: NodeReply::Returned,
-            raised: Raised::nothing(),
+            raised: Raised::Nothing,
         })
     }
 
@@ -120,7 +120,15 @@ impl Node {
                 version,
                 content,
                 from,
-            } => self.tell_refresh(alloc, number, ask, file, *version, content, *from),
+            } => self.tell_refresh(
+                alloc,
+                number,
+                ask,
+                file.get(),
+                *version,
+                content.get(),
+                *from,
+            ),
         }
     }
 
@@ -135,7 +143,7 @@ impl Node {
         ensures entered { IfOk result (λ telling. telling.entered ≡ NodeReply.Refused reason) }
         ensures told { IfOk result (λ telling. telling.told ≡ NodeReply.Refused reason) }
         ensures after { OnOk result (self.new ≡ node.with_last number self.old) }
-        ensures raised { IfOk result (λ telling. telling.raised ≡ Raised.Written []) }
+        ensures raised { IfOk result (λ telling. telling.raised ≡ Raised.Nothing) }
         ensures err { OnErr result (self.new ≡ self.old) }
     {
         let telling = refusal_telling(alloc, reason)?;
@@ -175,7 +183,7 @@ impl Node {
                 version,
                 content: told,
             },
-            raised: Raised::nothing(),
+            raised: Raised::Nothing,
         })
     }
 
@@ -208,7 +216,7 @@ impl Node {
         Ok(Telling {
             entered,
             told,
-            raised: Raised::nothing(),
+            raised: Raised::Nothing,
         })
     }
 
@@ -236,7 +244,7 @@ impl Node {
             return Ok(Telling {
                 entered: NodeReply::Discarded,
                 told: NodeReply::Discarded,
-                raised: Raised::nothing(),
+                raised: Raised::Nothing,
             });
         }
         let writes = vote.writes.clone()?;
@@ -264,7 +272,7 @@ impl Node {
         Ok(Telling {
             entered: NodeReply::Released,
             told: NodeReply::Released,
-            raised: Raised::nothing(),
+            raised: Raised::Nothing,
         })
     }
 
@@ -287,7 +295,7 @@ impl Node {
                 version,
                 content: told,
             },
-            raised: Raised::nothing(),
+            raised: Raised::Nothing,
         })
     }
 
@@ -329,13 +337,13 @@ impl Node {
 fn refusal_telling(alloc: Global, reason: NodeRefusal) -> Result<Telling, Memory>
     ensures entered { IfOk result (λ telling. telling.entered ≡ NodeReply.Refused reason) }
     ensures told { IfOk result (λ telling. telling.told ≡ NodeReply.Refused reason) }
-    ensures raised { IfOk result (λ telling. telling.raised ≡ Raised.Written []) }
+    ensures raised { IfOk result (λ telling. telling.raised ≡ Raised.Nothing) }
 {
     let entered = NodeReply::of_refusal(alloc, reason)?;
     let told = entered.clone()?;
     Ok(Telling {
         entered,
         told,
-        raised: Raised::nothing(),
+        raised: Raised::Nothing,
     })
 }

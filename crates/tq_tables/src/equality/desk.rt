@@ -4,8 +4,8 @@ ghost use Rattle.std.specs.{Prelude.◌≡◌, Cmp.Lexicographic.pointwise};
 ghost use Rattle.tq_tables.specs.Same as spec;
 
 use crate::equality::same::Same;
-use tq_desk::{DeskAsk, DeskRefusal, DeskReply};
-use tq_evidence::{Op, Vote};
+use tq_desk::{Ballot, DeskAsk, DeskRefusal, DeskReply};
+use tq_evidence::Op;
 use tq_shape::SharedSeq;
 
 impl Same for DeskAsk {
@@ -26,10 +26,10 @@ fn are_same_ops(one: &SharedSeq<Op>, other: &SharedSeq<Op>) -> bool
     *one == *other
 }
 
-fn are_same_votes(one: &SharedSeq<Vote>, other: &SharedSeq<Vote>) -> bool
+fn are_same_votes(one: &Ballot, other: &Ballot) -> bool
     ensures { result ≡ pointwise spec.same_vote one.now other.now }
 {
-    *one == *other
+    one.as_slice() == other.as_slice()
 }
 
 /// The test of the desk's asks, case by case.

@@ -61,7 +61,7 @@ fn test_of_work(one: &WorkAsk, other: &WorkAsk) -> bool
             version,
             content,
             from,
-        } => is_refresh(other, file, *version, content, from),
+        } => is_refresh(other, file.get(), *version, content.get(), from),
     }
 }
 
@@ -82,7 +82,10 @@ fn is_refresh(
             version: number,
             content: bytes,
             from: source,
-        } => *file == *name && version == *number && *content == *bytes && *from == *source,
+        } => *file == *name.get()
+            && version == *number
+            && *content == *bytes.get()
+            && *from == *source,
         _ => false,
     }
 }

@@ -1,7 +1,6 @@
 use Rattle.std.proofs.Common.{[], ◌∙◌}
 use Rattle.json.specs.Print.{escape_byte}
-use Rattle.tq_board.specs.Lines.{answer_value}
-use Rattle.tq_board.proofs.{Gathered.added, ReadBack.is-line}
+use Rattle.tq_board.{specs.Lines.answer_value, proofs.{Gathered.added, ReadBack.is-line}}
 use Rattle.tq_board.proofs.entry_line.answer_to_json.Goals as goal
 
 pub returns-clause-text : goal.returns-clause-text

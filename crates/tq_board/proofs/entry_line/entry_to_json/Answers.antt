@@ -1,7 +1,6 @@
 use Rattle.std.proofs.Common.{[], ◌∙◌}
 use Rattle.tq_shape.specs.Journal.{entry}
-use Rattle.tq_board.specs.Values.{entry_value}
-use Rattle.tq_board.proofs.{Gathered.added, ReadBack.is-line}
+use Rattle.tq_board.{specs.Values.entry_value, proofs.{Gathered.added, ReadBack.is-line}}
 use Rattle.tq_board.proofs.entry_line.entry_to_json.Goals as goal
 
 pub returns-clause-text : goal.returns-clause-text

@@ -1,5 +1,4 @@
-use Rattle.std.proofs.Common.{false, drop}
-use Rattle.std.specs.List.{AllByRecursion}
+use Rattle.std.{proofs.Common.{false, drop}, specs.List.AllByRecursion}
 use Rattle.serde_json.specs.Written.{items_text}
 use Rattle.tq_board.specs.{Values.{value_items, AreFitting}, Lines.Added}
 use Rattle.tq_board.proofs.to_json.put_list.Given as goal

@@ -1,5 +1,4 @@
-use Rattle.tq_board.specs.Values.{whole}
-use Rattle.tq_board.proofs.Gathered.{value_items-map}
+use Rattle.tq_board.{specs.Values.whole, proofs.Gathered.value_items-map}
 use Rattle.tq_board.proofs.views.put_servers.Goals as goal
 
 pub returns-clause-adds : goal.returns-clause-adds

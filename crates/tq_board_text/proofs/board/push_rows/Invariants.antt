@@ -1,5 +1,4 @@
-use Rattle.std.proofs.Common.{◌≡◌, ◌++◌, drop, string_bytes}
-use Rattle.std.specs.List.{flat_map}
+use Rattle.std.{proofs.Common.{◌≡◌, ◌++◌, drop, string_bytes}, specs.List.flat_map}
 use Rattle.tq_board_text.specs.Board.{as_line, file_text, lock_text, intent_text}
 use Rattle.tq_board_text.proofs.board.push_rows.Given as goal
 

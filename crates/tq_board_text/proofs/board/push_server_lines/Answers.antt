@@ -1,6 +1,5 @@
 use Rattle.std.proofs.Common.{◌≡◌, ◌∙◌, ap, string_bytes}
-use Rattle.tq_board_text.specs.Board.{server_line}
-use Rattle.tq_board_text.proofs.Listing.{line_written, server_line_is}
+use Rattle.tq_board_text.{specs.Board.server_line, proofs.Listing.{line_written, server_line_is}}
 use Rattle.tq_board_text.proofs.board.push_server_lines.Goals as goal
 
 pub loop-number-preserved : goal.loop-number-preserved

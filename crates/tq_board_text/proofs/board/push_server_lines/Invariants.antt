@@ -1,5 +1,4 @@
-use Rattle.std.proofs.Common.{◌≡◌, ◌++◌, ◌-◌, string_bytes}
-use Rattle.std.specs.List.{flat_map}
+use Rattle.std.{proofs.Common.{◌≡◌, ◌++◌, ◌-◌, string_bytes}, specs.List.flat_map}
 use Rattle.tq_live.specs.View.{upwards}
 use Rattle.tq_board_text.specs.Board.{server_line}
 use Rattle.tq_board_text.proofs.board.push_server_lines.Given as goal

@@ -1,5 +1,4 @@
-use Rattle.std.proofs.Common.{◌≡◌, ◌++◌, map, string_bytes}
-use Rattle.std.specs.Fmt.{decimal}
+use Rattle.std.{proofs.Common.{◌≡◌, ◌++◌, map, string_bytes}, specs.Fmt.decimal}
 use Rattle.tq_coterie.specs.Coterie.{numbers_of}
 use Rattle.tq_board_text.specs.Board.{words_after_spaces}
 use Rattle.tq_board_text.proofs.word.push_set.Given as goal

@@ -1,7 +1,6 @@
 use Rattle.std.proofs.Common.{◌≡◌, ◌∙◌, None, Some, Option, List, codes, refl, sym, ap, subst}
 use Rattle.std.specs.Prelude.{option_map}
-use Rattle.clap.proofs.WalkLemmas.{typed_values-rows}
-use Rattle.clap.specs.Words.{Text, found_of, many_of, rows_of, values_left}
+use Rattle.clap.{proofs.WalkLemmas.typed_values-rows, specs.Words.{Text, found_of, many_of, rows_of, values_left}}
 use Rattle.tq_cli.specs.TqdWords.{AreLimits, HasLimits}
 use Rattle.tq_cli.proofs.tqd_words.limits_of.Goals as goal
 

@@ -1,8 +1,7 @@
 use Rattle.std.proofs.Common.{◌≡◌, ℕ, codes, Some, arith, sym, ◌∙◌, subst}
 use Rattle.std.specs.Str.Parse.{ParsesUnsigned, ExplainsUnsignedError, HasUnsignedDigitsIfOk}
 use Rattle.clap.specs.Words.{found_of, rows_of}
-use Rattle.tq_cli.specs.Command.{IsGiven}
-use Rattle.tq_cli.proofs.CommandLaws.{number_read}
+use Rattle.tq_cli.{specs.Command.IsGiven, proofs.CommandLaws.number_read}
 use Rattle.tq_cli.proofs.tqd_words.number_of.Goals as goal
 
 pub unreachable-requires : goal.unreachable-requires

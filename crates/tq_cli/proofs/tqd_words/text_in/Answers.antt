@@ -1,7 +1,5 @@
-use Rattle.std.proofs.Common.{◌≡◌, ◌∙◌, Some, None, sym, ap}
-use Rattle.std.specs.Prelude.{option_map}
-use Rattle.clap.proofs.WalkLemmas.{first_value-rows}
-use Rattle.clap.specs.Words.{found_of}
+use Rattle.std.{proofs.Common.{◌≡◌, ◌∙◌, Some, None, sym, ap}, specs.Prelude.option_map}
+use Rattle.clap.{proofs.WalkLemmas.first_value-rows, specs.Words.found_of}
 use Rattle.tq_cli.proofs.tqd_words.text_in.Goals as goal
 
 pub unreachable-requires : goal.unreachable-requires

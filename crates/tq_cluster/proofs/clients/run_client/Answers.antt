@@ -1,9 +1,7 @@
-use Rattle.std.proofs.Common.{◌∙◌, ℕ, None, Some, ap, sym, subst}
-use Rattle.std.specs.Result.{result_ok}
+use Rattle.std.{proofs.Common.{◌∙◌, ℕ, None, Some, ap, sym, subst}, specs.Result.result_ok}
 use Rattle.tq_shape.specs.Limits.{LimitsView}
 use Rattle.tq_txn.specs.{Dialogue.Follows, Script.script_asked}
-use Rattle.tq_cluster.specs.{Told.CallerView, Clients.IsClient}
-use Rattle.tq_cluster.proofs.Callers.{client_told}
+use Rattle.tq_cluster.{specs.{Told.CallerView, Clients.IsClient}, proofs.Callers.client_told}
 use Rattle.tq_cluster.proofs.clients.run_client.Goals as goal
 
 pub returns : goal.returns

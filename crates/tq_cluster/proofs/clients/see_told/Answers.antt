@@ -1,6 +1,5 @@
 use Rattle.std.proofs.Common.{subst}
-use Rattle.tq_cluster.specs.Told.{AreOfParts, CallerView}
-use Rattle.tq_cluster.proofs.Callers.{all_done, all_next}
+use Rattle.tq_cluster.{specs.Told.{AreOfParts, CallerView}, proofs.Callers.{all_done, all_next}}
 use Rattle.tq_cluster.proofs.clients.see_told.Goals as goal
 
 pub loop-caller-preserved : goal.loop-caller-preserved

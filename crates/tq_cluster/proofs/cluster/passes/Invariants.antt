@@ -1,5 +1,4 @@
-use Rattle.std.proofs.Common.{◌≡◌, map, replicate}
-use Rattle.std.specs.Prelude.{vec_len}
+use Rattle.std.{proofs.Common.{◌≡◌, map, replicate}, specs.Prelude.vec_len}
 use Rattle.tq_cluster.proofs.cluster.passes.Given as goal
 
 -- a pass for each cell so far, with nothing seen

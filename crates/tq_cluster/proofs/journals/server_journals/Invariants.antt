@@ -1,5 +1,4 @@
-use Rattle.std.proofs.Common.{◌≡◌, ◌≤◌, length, map}
-use Rattle.std.specs.{List.All, Vec.{vec_len, vec_capacity}}
+use Rattle.std.{proofs.Common.{◌≡◌, ◌≤◌, length, map}, specs.{List.All, Vec.{vec_len, vec_capacity}}}
 use Rattle.tq_tables.specs.Parts.{AreLegalServers}
 use Rattle.tq_cluster.proofs.journals.server_journals.Given as goal
 

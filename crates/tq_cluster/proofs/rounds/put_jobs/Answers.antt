@@ -1,9 +1,7 @@
-use Rattle.std.proofs.Common.{ap, ◌∙◌}
-use Rattle.std.specs.List.{flat_map}
+use Rattle.std.{proofs.Common.{ap, ◌∙◌}, specs.List.flat_map}
 use Rattle.crossbeam_channel.specs.Claims.{view}
 use Rattle.tq_refresh.specs.Plan.{jobs_in}
-use Rattle.tq_cluster.specs.Rounds.{with_jobs}
-use Rattle.tq_cluster.proofs.Pulled.{file_put, files_put}
+use Rattle.tq_cluster.{specs.Rounds.with_jobs, proofs.Pulled.{file_put, files_put}}
 use Rattle.tq_cluster.proofs.rounds.put_jobs.Goals as goal
 
 pub loop-of_file-preserved : goal.loop-of_file-preserved

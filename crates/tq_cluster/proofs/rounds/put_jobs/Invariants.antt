@@ -1,5 +1,4 @@
-use Rattle.std.proofs.Common.{◌≡◌, drop}
-use Rattle.std.specs.List.{flat_map}
+use Rattle.std.{proofs.Common.{◌≡◌, drop}, specs.List.flat_map}
 use Rattle.crossbeam_channel.specs.{Claims.view, Ends.sends_on}
 use Rattle.tq_refresh.specs.Plan.{jobs_in}
 use Rattle.tq_cluster.specs.Rounds.{with_jobs}

@@ -3,8 +3,7 @@ use Rattle.crossbeam_channel.specs.Claims.{view}
 use Rattle.tq_shape.specs.{ServerSet.has_number, Tree.Server}
 use Rattle.tq_refresh.specs.{declared.job.Job.Job, Plan.{servers_in, jobs_from}}
 use Rattle.tq_refresh.proofs.Walked.{of_one_tree, left_of_tree, walks-passes, walks-passed}
-use Rattle.tq_cluster.specs.Rounds.{with_jobs}
-use Rattle.tq_cluster.proofs.Pulled.{one_put}
+use Rattle.tq_cluster.{specs.Rounds.with_jobs, proofs.Pulled.one_put}
 use Rattle.tq_cluster.proofs.rounds.put_jobs_of.Goals as goal
 
 pub loop-stale-init : goal.loop-stale-init

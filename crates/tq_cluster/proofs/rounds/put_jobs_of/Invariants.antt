@@ -1,5 +1,4 @@
-use Rattle.std.proofs.Common.{◌≡◌, Some, filter}
-use Rattle.std.specs.List.{All}
+use Rattle.std.{proofs.Common.{◌≡◌, Some, filter}, specs.List.All}
 use Rattle.crossbeam_channel.specs.{Claims.view, Ends.sends_on}
 use Rattle.tq_shape.specs.ServerSet.{has_number}
 use Rattle.tq_refresh.specs.Plan.{jobs_from, jobs_in}

@@ -2,8 +2,7 @@ use Rattle.std.proofs.Common.{◌∙◌, ap, subst, sym}
 use Rattle.crossbeam_channel.specs.Claims.{view}
 use Rattle.tq_refresh.specs.Plan.{ArePlanned, plan_of}
 use Rattle.tq_tables.specs.Tables.{TablesView}
-use Rattle.tq_cluster.specs.Rounds.{with_jobs}
-use Rattle.tq_cluster.proofs.Pulled.{for_workers}
+use Rattle.tq_cluster.{specs.Rounds.with_jobs, proofs.Pulled.for_workers}
 use Rattle.tq_cluster.proofs.rounds.put_plan.Goals as goal
 
 pub put_jobs-requires : goal.put_jobs-requires

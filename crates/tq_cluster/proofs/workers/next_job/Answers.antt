@@ -1,7 +1,6 @@
 use Rattle.std.proofs.Common.{◌∙◌, [], ◌∷◌, ◌++◌, ap}
 use Rattle.crossbeam_channel.specs.Claims.{view}
-use Rattle.tq_cluster.specs.{declared.workers.Message.Message, Clients.jobs_in}
-use Rattle.tq_cluster.proofs.Callers.{job_more, stop_more}
+use Rattle.tq_cluster.{specs.{declared.workers.Message.Message, Clients.jobs_in}, proofs.Callers.{job_more, stop_more}}
 use Rattle.tq_cluster.proofs.workers.next_job.Goals as goal
 
 pub returns-in-Some-Job-clause-job : goal.returns-in-Some-Job-clause-job

@@ -1,7 +1,6 @@
 use Rattle.std.proofs.Common.{◌≡◌, ap, sym, ◌∙◌}
 use Rattle.tq_shape.specs.{declared.server.Sides.Sides, Tree.{left_of, right_of, height_of}}
-use Rattle.tq_coterie.specs.Coterie.{has}
-use Rattle.tq_coterie.proofs.Sets.{holds-from, holds-at_leaf}
+use Rattle.tq_coterie.{specs.Coterie.has, proofs.Sets.{holds-from, holds-at_leaf}}
 use Rattle.tq_coterie.proofs.holding.+holds_member_under.Goals as goal
 
 pub returns-in-Some : goal.returns-in-Some

@@ -1,7 +1,6 @@
 use Rattle.std.proofs.Common.{◌≡◌, ◌-◌}
 use Rattle.tq_shape.proofs.Tree.{height_of-one}
-use Rattle.tq_coterie.specs.Coterie.{has, holds_member, members}
-use Rattle.tq_coterie.proofs.Sets.{holds-otherwise}
+use Rattle.tq_coterie.{specs.Coterie.{has, holds_member, members}, proofs.Sets.holds-otherwise}
 use Rattle.tq_coterie.proofs.holding.holds_quorum.Goals as goal
 
 pub returns-clause-held : goal.returns-clause-held

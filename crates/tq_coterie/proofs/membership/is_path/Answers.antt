@@ -1,8 +1,6 @@
 use Rattle.std.proofs.Common.{rules, ◌≡◌, ◌-◌, ◌+◌, ◌∷◌, List, ℕ, length, drop, slice_index_or, arith, ap, sym, subst}
-use Rattle.std.proofs.lemmas.List.{drop_more, drop_all}
-use Rattle.std.specs.List.{Contains}
-use Rattle.tq_coterie.specs.Coterie.{members}
-use Rattle.tq_coterie.proofs.Members.{Contains-leaf, Contains-with_side}
+use Rattle.std.{proofs.lemmas.List.{drop_more, drop_all}, specs.List.Contains}
+use Rattle.tq_coterie.{specs.Coterie.members, proofs.Members.{Contains-leaf, Contains-with_side}}
 use Rattle.tq_coterie.proofs.membership.is_path.Goals as goal
 
 pub loop-number-preserved : goal.loop-number-preserved

@@ -1,5 +1,4 @@
-use Rattle.std.proofs.Common.{◌∷◌, drop, length}
-use Rattle.std.specs.List.{Contains}
+use Rattle.std.{proofs.Common.{◌∷◌, drop, length}, specs.List.Contains}
 use Rattle.tq_coterie.specs.Coterie.{members}
 use Rattle.tq_coterie.proofs.membership.is_path.Given as goal
 

@@ -1,5 +1,4 @@
-use Rattle.std.proofs.Common.{◌≡◌, ℕ, length, take, drop}
-use Rattle.std.specs.Io.KnownBytes.{Appends}
+use Rattle.std.{proofs.Common.{◌≡◌, ℕ, length, take, drop}, specs.Io.KnownBytes.Appends}
 use Rattle.tq_devices.proofs.writing.write_out.Given as goal
 
 -- a front of the bytes is written, and the rest is left

@@ -1,7 +1,5 @@
-use Rattle.std.proofs.Common.{◌≡◌, ◌++◌, ◌∷◌, [], subst, rules}
-use Rattle.std.specs.Fmt.{decimal}
-use Rattle.tq_host.specs.Hosted.{IsFront}
-use Rattle.tq_host.proofs.LineLaws.{front-of}
+use Rattle.std.{proofs.Common.{◌≡◌, ◌++◌, ◌∷◌, [], subst, rules}, specs.Fmt.decimal}
+use Rattle.tq_host.{specs.Hosted.IsFront, proofs.LineLaws.front-of}
 use Rattle.tq_host.proofs.hosting.write_line.Goals as goal
 
 pub returns-in_default-write_out-clause-err : goal.returns-in_default-write_out-clause-err

@@ -1,5 +1,4 @@
-use Rattle.std.proofs.{Common.{length, sym, subst, arith, rules}, lemmas.List.take_all}
-use Rattle.std.specs.Io.KnownBytes.{Appends}
+use Rattle.std.{proofs.{Common.{length, sym, subst, arith, rules}, lemmas.List.take_all}, specs.Io.KnownBytes.Appends}
 use Rattle.tq_host.proofs.serving.keep.Goals as goal
 
 pub returns-in_default-sync-clause-half : goal.returns-in_default-sync-clause-half

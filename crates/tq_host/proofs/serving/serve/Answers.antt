@@ -1,6 +1,5 @@
 use Rattle.std.proofs.Common.{◌≡◌, ◌<◌, ◌≤◌, ◌^◌, ◌+◌, ◌-◌, ◌++◌, [], length, take, drop, refl, sym, ap, subst, ◌∙◌, arith, rules}
-use Rattle.std.proofs.lemmas.{Bool.eqb-true, List.length-take-le}
-use Rattle.std.specs.Io.KnownBytes.{Appends, Keeps}
+use Rattle.std.{proofs.lemmas.{Bool.eqb-true, List.length-take-le}, specs.Io.KnownBytes.{Appends, Keeps}}
 use Rattle.memchr.specs.Find.{Nowhere, Passes, is_byte}
 use Rattle.tq_host.specs.{Lines.IsLine, Told.{Told, IsTold, with_told, nothing_left, IsHalfOut}}
 use Rattle.tq_host.specs.declared.fault.HostFault.TheVariants.{Memory}

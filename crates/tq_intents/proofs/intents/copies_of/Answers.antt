@@ -1,6 +1,5 @@
 use Rattle.std.proofs.Common.{ap, sym, ◌∙◌}
-use Rattle.tq_intents.specs.Kept.{with_record}
-use Rattle.tq_intents.proofs.CopiesPush.{kept_copies-more}
+use Rattle.tq_intents.{specs.Kept.with_record, proofs.CopiesPush.kept_copies-more}
 use Rattle.tq_intents.proofs.intents.copies_of.Goals as goal
 
 pub loop-written-preserved : goal.loop-written-preserved

@@ -3,8 +3,7 @@ use Rattle.tq_txn.specs.{declared.txn.Txn.Txn, Told.IsEnding, Dialogue.{Follows,
 use Rattle.tq_txn.specs.Commits.{commit_line, decide_line}
 use Rattle.tq_txn.specs.declared.txn.Txn.TheVariants as states
 use Rattle.tq_interpreter.specs.TxnAsked.{answer_end, missing_in, serial_text, decision_asked, decision_voting, course_line, IsClosed}
-use Rattle.tq_interpreter.specs.declared.states.{Closed.Closed, Closed.TheVariants.Voting}
-use Rattle.tq_interpreter.specs.Known.{IsKept, in_state}
+use Rattle.tq_interpreter.specs.{declared.states.Closed.{Closed, TheVariants.Voting}, Known.{IsKept, in_state}}
 use Rattle.tq_interpreter.proofs.ShellLines.{answered_as, kept_ending, later_asked, said_by, voting_kept}
 use Rattle.tq_interpreter.proofs.decisions.decide_txn.Goals.{in-Decide, in-Commit}
 use Rattle.tq_interpreter.proofs.decisions.decide_txn.Goals as goal

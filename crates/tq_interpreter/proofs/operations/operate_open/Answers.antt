@@ -1,8 +1,8 @@
 use Rattle.std.proofs.Common.{refl}
 use Rattle.tq_txn.specs.Lines.{read_line, write_line}
 use Rattle.tq_interpreter.specs.{TxnAsked.{answer_end, no_servers, read_text, written_text}, Known.in_state}
-use Rattle.tq_txn.specs.declared.txn.Txn.TheVariants as states
 use Rattle.tq_interpreter.proofs.ShellLines.{said_by}
+use Rattle.tq_txn.specs.declared.txn.Txn.TheVariants as states
 use Rattle.tq_interpreter.proofs.operations.operate_open.Goals as goal
 
 pub returns-in_ok-say_read-in-Read-clause-answered : goal.returns-in_ok-say_read-in-Read-clause-answered

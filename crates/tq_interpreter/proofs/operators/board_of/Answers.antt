@@ -1,5 +1,4 @@
-use Rattle.std.specs.Prelude.{string_bytes, IfOk}
-use Rattle.std.proofs.Common.{◌≡◌, subst}
+use Rattle.std.{specs.Prelude.{string_bytes, IfOk}, proofs.Common.{◌≡◌, subst}}
 use Rattle.tq_live.specs.Live.{Live}
 use Rattle.tq_tables.specs.Tables.{TablesView, tables_of}
 use Rattle.tq_board_text.specs.Board.{board_text}

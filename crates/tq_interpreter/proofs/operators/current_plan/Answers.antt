@@ -1,5 +1,4 @@
-use Rattle.std.specs.Prelude.{IfOk}
-use Rattle.std.proofs.Common.{◌≡◌, subst}
+use Rattle.std.{specs.Prelude.IfOk, proofs.Common.{◌≡◌, subst}}
 use Rattle.tq_live.specs.Live.{Live}
 use Rattle.tq_refresh.specs.Plan.{ArePlanned, jobs_of_plan, plan_of}
 use Rattle.tq_tables.specs.Tables.{TablesView, tables_of}

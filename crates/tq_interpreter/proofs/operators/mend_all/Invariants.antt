@@ -1,5 +1,4 @@
-use Rattle.std.proofs.Common.{◌≡◌, ◌≤◌, ◌+◌, drop, length}
-use Rattle.std.specs.List.{flat_map}
+use Rattle.std.{proofs.Common.{◌≡◌, ◌≤◌, ◌+◌, drop, length}, specs.List.flat_map}
 use Rattle.tq_refresh.specs.Plan.{jobs_in, jobs_of_plan}
 use Rattle.tq_interpreter.specs.{Answer.{LeadsOn, behind, nothing_mended, so_far}, Known.IsLater}
 use Rattle.tq_text.specs.Print.{Extends}

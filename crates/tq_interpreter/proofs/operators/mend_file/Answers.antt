@@ -1,14 +1,11 @@
 use Rattle.std.proofs.Common.{◌≡◌, ◌+◌, [], ◌++◌, List, Some, filter, length, refl, ap, sym, subst, ◌∙◌, arith, rules}
-use Rattle.std.proofs.lemmas.{List.append-nil, List.Elements.All-head}
-use Rattle.std.specs.List.{All}
+use Rattle.std.{proofs.lemmas.List.{append-nil, Elements.All-head}, specs.List.All}
 use Rattle.tq_shape.specs.{ServerSet.has_number, Tree.Server}
 use Rattle.tq_refresh.specs.{declared.job.Job.Job, Plan.{jobs_from, servers_in}}
 use Rattle.tq_refresh.proofs.Walked.{left_of_tree, of_one_tree, walks-passed, walks-passes}
-use Rattle.tq_text.specs.Print.{printed_line}
-use Rattle.tq_interpreter.specs.Answer.{job_text}
-use Rattle.tq_interpreter.proofs.Recording.{counted_fits, leads_from, longer, one_on}
+use Rattle.tq_text.{specs.Print.printed_line, proofs.Extended.extends_more}
+use Rattle.tq_interpreter.{specs.Answer.job_text, proofs.Recording.{counted_fits, leads_from, longer, one_on}}
 use Rattle.tq_interpreter.proofs.ShellLines.{later_none, later_on}
-use Rattle.tq_text.proofs.Extended.{extends_more}
 use Rattle.tq_interpreter.proofs.operators.mend_file.Goals as goal
 
 pub mend-requires-clause-of_tree : goal.mend-requires-clause-of_tree
@@ -31,8 +28,9 @@ loop-server-init c =
       of_tree = of_one_tree _ _ _ _ start (c.requires.planned.0 ∙ sym c.requires.up);
       later = later_none c.args.recorder.now;
       peek = c.in_ok-peek.ensures;
-      front = c.in_ok-said.ensures.front;
-      back = c.in_ok-said.ensures.back;
+      file = c.in_ok-file.ensures;
+      front = c.in_ok-set_mended_text.ensures.front;
+      back = c.in_ok-set_mended_text.ensures.back;
       begun = ([], sym (append-nil c.args.text.now.items));
     }
 
@@ -50,6 +48,7 @@ loop-server-preserved-then-contains c =
       of_tree = left_of_tree c.args.up.now.levels _ _ _ c.in-Some.ensures.steps before.of_tree;
       later = later_on _ _ _ before.later c.in_ok-refreshed.ensures.later;
       peek = before.peek;
+      file = before.file;
       front = before.front;
       back = before.back;
       begun = extends_more _ _ _ before.begun (printed_line (job_text (job c.in-Some.server) c.in_ok-refreshed.refreshed), said);
@@ -67,6 +66,7 @@ loop-server-preserved c =
       of_tree = left_of_tree c.args.up.now.levels _ _ _ c.in-Some.ensures.steps before.of_tree;
       later = before.later;
       peek = before.peek;
+      file = before.file;
       front = before.front;
       back = before.back;
       begun = before.begun;

@@ -1,5 +1,4 @@
-use Rattle.std.proofs.Common.{◌≡◌, ◌≤◌, ◌+◌, ◌++◌, List, Some, filter, length}
-use Rattle.std.specs.List.{All}
+use Rattle.std.{proofs.Common.{◌≡◌, ◌≤◌, ◌+◌, ◌++◌, List, Some, filter, length}, specs.List.All}
 use Rattle.tq_shape.specs.{ServerSet.has_number, Tree.Server}
 use Rattle.tq_refresh.specs.{declared.job.Job.Job, Plan.{jobs_from, jobs_in, peek_of}}
 use Rattle.tq_interpreter.specs.{Answer.{LeadsOn, so_far, mended_front, mended_back}, Known.IsLater}
@@ -18,6 +17,7 @@ invariant-loop-server l = record {
   of_tree : All (λ server. server.levels ≡ l.up.levels) l.server-iterator;
   later : IsLater l.fn.recorder l.recorder;
   peek : l.peek ≡ peek_of l.of_file.file;
+  file : l.file ≡ l.of_file.file;
   front : l.said.front.items ≡ mended_front l.of_file.file;
   back : l.said.back.items ≡ mended_back l.of_file.source.number;
   begun : Extends l.initial.text.items l.text.items;

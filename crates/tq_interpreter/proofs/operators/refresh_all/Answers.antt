@@ -1,9 +1,7 @@
 use Rattle.std.proofs.Common.{◌∙◌, ◌++◌, ap, rules}
 use Rattle.tq_refresh.specs.Plan.{jobs_of_plan}
-use Rattle.tq_interpreter.specs.Answer.{count_text, refresh_jobs}
-use Rattle.tq_text.specs.Print.{printed_line}
-use Rattle.tq_text.proofs.Extended.{extends_more}
-use Rattle.tq_interpreter.proofs.Recording.{refreshed_end, refreshed_after}
+use Rattle.tq_interpreter.{specs.Answer.{count_text, refresh_jobs}, proofs.Recording.{refreshed_end, refreshed_after}}
+use Rattle.tq_text.{specs.Print.printed_line, proofs.Extended.extends_more}
 use Rattle.tq_interpreter.proofs.operators.refresh_all.Goals as goal
 
 pub returns-clause-text : goal.returns-clause-text

@@ -1,5 +1,4 @@
-use Rattle.std.proofs.Common.{◌∙◌, ◌++◌, ◌∷◌, [], ap, sym, append_assoc, codes}
-use Rattle.std.specs.Fmt.{decimal}
+use Rattle.std.{proofs.Common.{◌∙◌, ◌++◌, ◌∷◌, [], ap, sym, append_assoc, codes}, specs.Fmt.decimal}
 use Rattle.tq_text.specs.Print.{printed_line}
 use Rattle.tq_interpreter.proofs.Recording.{three_texts}
 use Rattle.tq_interpreter.proofs.operators.say_not_refreshed.Goals as goal

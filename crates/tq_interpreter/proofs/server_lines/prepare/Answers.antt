@@ -1,6 +1,5 @@
 use Rattle.std.proofs.Common.{◌∙◌, sym, subst}
-use Rattle.tq_interpreter.specs.Known.{IsKept}
-use Rattle.tq_interpreter.proofs.ShellLines.{later_none, voting_kept}
+use Rattle.tq_interpreter.{specs.Known.IsKept, proofs.ShellLines.{later_none, voting_kept}}
 use Rattle.tq_interpreter.proofs.server_lines.prepare.Goals.{in-Said, in-Voting+in_ok-kept-in-Voting}
 use Rattle.tq_interpreter.proofs.server_lines.prepare.Goals as goal
 

@@ -2,8 +2,8 @@ use Rattle.std.proofs.Common.{◌∙◌, ◌++◌, [], refl, ap}
 use Rattle.tq_asks.specs.declared.ask.WorkAsk.TheVariants.{Decide}
 use Rattle.tq_txn.specs.Lines.{apply_line, stop_line}
 use Rattle.tq_interpreter.specs.TxnAsked.{answer_end, no_servers, told_text, apply_stopped_text, down_text, result_text}
-use Rattle.tq_text.specs.Print.{applied_text, printed_line}
 use Rattle.tq_interpreter.proofs.ShellLines.{said_by}
+use Rattle.tq_text.specs.Print.{applied_text, printed_line}
 use Rattle.tq_interpreter.proofs.server_lines.tell.Goals as goal
 
 pub returns-in_ok-say_told-in-None-clause-answered : goal.returns-in_ok-say_told-in-None-clause-answered

@@ -1,11 +1,9 @@
-use Rattle.std.proofs.Common.{◌∙◌, ◌++◌, ◌∷◌, [], cond, codes, refl, ap}
-use Rattle.std.specs.Fmt.{decimal}
+use Rattle.std.{proofs.Common.{◌∙◌, ◌++◌, ◌∷◌, [], cond, codes, refl, ap}, specs.Fmt.decimal}
 use Rattle.tq_txn.specs.declared.txn.Txn.TheVariants as states
 use Rattle.tq_txn.specs.Lines.{prepare_line, prepare_stop_line}
 use Rattle.tq_interpreter.specs.TxnAsked.{answer_end, voted_text, stopped_text, down_text, result_text}
-use Rattle.tq_interpreter.specs.Known.{in_state}
+use Rattle.tq_interpreter.{specs.Known.in_state, proofs.ShellLines.{later_asked, said_by}}
 use Rattle.tq_text.specs.Print.{printed_line}
-use Rattle.tq_interpreter.proofs.ShellLines.{later_asked, said_by}
 use Rattle.tq_interpreter.proofs.server_lines.vote.Goals as goal
 
 pub returns-in_ok-say_server-in-None-clause-answered : goal.returns-in_ok-say_server-in-None-clause-answered

@@ -1,5 +1,4 @@
-use Rattle.std.proofs.Common.{◌++◌}
-use Rattle.std.specs.List.{flat_map}
+use Rattle.std.{proofs.Common.◌++◌, specs.List.flat_map}
 use Rattle.tq_txn.specs.declared.asker.Exchange.TheVariants as exchanges
 use Rattle.tq_interpreter.specs.Recorded.{told_exchanges}
 use Rattle.tq_interpreter.proofs.told.with_handed.Given as goal

@@ -1,8 +1,7 @@
 use Rattle.std.proofs.Common.{◌≡◌, ◌∷◌, None, refl, ap, ◌∙◌}
 use Rattle.json.specs.Reads.{token_of}
 use Rattle.serde_json.specs.{Data.string, Find.as_str}
-use Rattle.tq_json.specs.Next.{next}
-use Rattle.tq_json.proofs.Nexts.{next-string, other_value, text_alone}
+use Rattle.tq_json.{specs.Next.next, proofs.Nexts.{next-string, other_value, text_alone}}
 use Rattle.tq_json.proofs.leaf.other_text.Goals as goal
 
 pub returns-in_default-clause-ok : goal.returns-in_default-clause-ok

@@ -1,9 +1,7 @@
-use Rattle.std.proofs.Common.{◌≡◌, ◌∷◌, None, ap, ◌∙◌}
-use Rattle.std.specs.Option.{option_and_then}
+use Rattle.std.{proofs.Common.{◌≡◌, ◌∷◌, None, ap, ◌∙◌}, specs.Option.option_and_then}
 use Rattle.json.specs.Reads.{token_of}
 use Rattle.serde_json.specs.Find.{as_number, as_u64}
-use Rattle.tq_json.specs.Next.{next}
-use Rattle.tq_json.proofs.Nexts.{next-no_number, number_answered, other_value, number_alone}
+use Rattle.tq_json.{specs.Next.next, proofs.Nexts.{next-no_number, number_answered, other_value, number_alone}}
 use Rattle.tq_json.proofs.leaf.other_whole.Goals as goal
 
 pub returns-in_default-clause-ok : goal.returns-in_default-clause-ok

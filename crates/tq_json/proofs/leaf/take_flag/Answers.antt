@@ -1,8 +1,7 @@
 use Rattle.std.proofs.Common.{◌≡◌, ◌∷◌, None, refl, ap, ◌∙◌}
 use Rattle.json.specs.Reads.{token_of}
 use Rattle.serde_json.specs.{Data.boolean, Find.as_bool}
-use Rattle.tq_json.specs.Next.{next}
-use Rattle.tq_json.proofs.Nexts.{next-boolean, other_value, flag_alone}
+use Rattle.tq_json.{specs.Next.next, proofs.Nexts.{next-boolean, other_value, flag_alone}}
 use Rattle.tq_json.proofs.leaf.take_flag.Goals as goal
 
 pub returns-in_default-clause-ok : goal.returns-in_default-clause-ok

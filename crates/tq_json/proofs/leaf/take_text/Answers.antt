@@ -1,7 +1,6 @@
 use Rattle.std.proofs.Common.{refl, ap, ◌∙◌}
 use Rattle.serde_json.specs.Data.{string}
-use Rattle.tq_json.specs.Next.{next}
-use Rattle.tq_json.proofs.Nexts.{next-string}
+use Rattle.tq_json.{specs.Next.next, proofs.Nexts.next-string}
 use Rattle.tq_json.proofs.leaf.take_text.Goals as goal
 
 pub returns-in-Some-clause-ok : goal.returns-in-Some-clause-ok

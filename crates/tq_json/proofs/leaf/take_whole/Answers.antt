@@ -1,7 +1,6 @@
 use Rattle.std.proofs.Common.{Some, ap, ◌∙◌}
 use Rattle.serde_json.specs.Data.{number}
-use Rattle.tq_json.specs.Next.{next}
-use Rattle.tq_json.proofs.{Contents.few_found, Nexts.next-number}
+use Rattle.tq_json.{specs.Next.next, proofs.{Contents.few_found, Nexts.next-number}}
 use Rattle.tq_json.proofs.leaf.take_whole.Goals as goal
 
 pub returns-in-Some-clause-ok : goal.returns-in-Some-clause-ok

@@ -1,5 +1,4 @@
-use Rattle.std.proofs.Common.{◌≡◌, ◌-◌, ◌≤◌, length, drop}
-use Rattle.std.specs.Str.{IsCharBoundary}
+use Rattle.std.{proofs.Common.{◌≡◌, ◌-◌, ◌≤◌, length, drop}, specs.Str.IsCharBoundary}
 use Rattle.json.specs.Lex.{between, lex}
 use Rattle.tq_json.proofs.lexeme.after_spaces_slowly.Given as goal
 

@@ -1,6 +1,5 @@
 use Rattle.std.proofs.Common.{◌≡◌, ◌<◌, true, get_or, length, lt_of_not-le, sym, ap, subst, ◌∙◌, arith}
-use Rattle.std.proofs.lemmas.List.{get_or_default, get_or_past}
-use Rattle.std.specs.Char.{digit_value}
+use Rattle.std.{proofs.lemmas.List.{get_or_default, get_or_past}, specs.Char.digit_value}
 use Rattle.json.specs.Word.{head}
 use Rattle.tq_json.proofs.{Contents.{one_more, next_number, below_18}, Lexemes.{counted, digit_range, ends_value}}
 use Rattle.tq_json.proofs.lexeme.number_first.Goals.{else-count-gt1-via-then-count-gt1+else-byte_at-eq48, else-count-gt1-via-else-count-gt1}

@@ -1,5 +1,4 @@
-use Rattle.std.proofs.Common.{◌≡◌, ◌-◌, ◌≤◌, take, length}
-use Rattle.std.specs.Str.Parse.{AllDigits, digits_value}
+use Rattle.std.{proofs.Common.{◌≡◌, ◌-◌, ◌≤◌, take, length}, specs.Str.Parse.{AllDigits, digits_value}}
 use Rattle.tq_json.proofs.number.few_digits.Given as goal
 
 -- what was passed is digits alone, and the number that they write

@@ -1,5 +1,4 @@
-use Rattle.std.proofs.Common.{length, ap, sym, ◌∙◌, arith}
-use Rattle.std.specs.Str.Parse.{digits_value}
+use Rattle.std.{proofs.Common.{length, ap, sym, ◌∙◌, arith}, specs.Str.Parse.digits_value}
 use Rattle.tq_json.proofs.Contents.{few-down, few-up, no-digits}
 use Rattle.tq_json.proofs.number.has_few_places.Goals as goal
 

@@ -1,5 +1,4 @@
-use Rattle.std.proofs.Common.{◌≡◌, drop, get_or, true, false, ◌==◌, Some, sym, ap, ◌∙◌}
-use Rattle.std.specs.Option.{option_and_then}
+use Rattle.std.{proofs.Common.{◌≡◌, drop, get_or, true, false, ◌==◌, Some, sym, ap, ◌∙◌}, specs.Option.option_and_then}
 use Rattle.fast_float.specs.Text.{scan}
 use Rattle.serde_json.specs.{Find.as_u64, Read.{number_of, number_from}}
 use Rattle.tq_json.proofs.Contents.{none-negative, few}

@@ -1,8 +1,7 @@
 use Rattle.std.proofs.Common.{◌≡◌, ◌∷◌, None, ap, ◌∙◌, arith}
 use Rattle.json.specs.Reads.{token_of}
 use Rattle.serde_json.specs.Find.{as_array}
-use Rattle.tq_json.specs.Next.{next}
-use Rattle.tq_json.proofs.Nexts.{next-too_deep-array, next_begin_array, other_value, array_alone}
+use Rattle.tq_json.{specs.Next.next, proofs.Nexts.{next-too_deep-array, next_begin_array, other_value, array_alone}}
 use Rattle.tq_json.proofs.opening.other_array.Goals as goal
 
 pub returns-in_default-clause-ok : goal.returns-in_default-clause-ok

@@ -1,6 +1,5 @@
 use Rattle.std.proofs.Common.{◌≤◌, length}
-use Rattle.tq_json.specs.Next.{tokens_behind}
-use Rattle.tq_json.proofs.Nexts.{AreOpen}
+use Rattle.tq_json.{specs.Next.tokens_behind, proofs.Nexts.AreOpen}
 use Rattle.tq_json.proofs.passing.+pass_open.Given as goal
 
 abbrev pub decreases-pass_open : goal.decreases-pass_open

@@ -1,7 +1,5 @@
-use Rattle.std.proofs.Common.{◌≡◌, ◌∷◌, None, true, false, ap, ◌∙◌, arith}
-use Rattle.std.specs.Option.{is_some}
-use Rattle.json.specs.{Json.value, Reads.token_of}
-use Rattle.json.proofs.Grammar.{value_is}
+use Rattle.std.{proofs.Common.{◌≡◌, ◌∷◌, None, true, false, ap, ◌∙◌, arith}, specs.Option.is_some}
+use Rattle.json.{specs.{Json.value, Reads.token_of}, proofs.Grammar.value_is}
 use Rattle.serde_json.specs.Read.{number_of, of_json, converted}
 use Rattle.tq_json.specs.Next.{next, behind}
 use Rattle.tq_json.proofs.Nexts.{next-string, next-boolean, next-null, next-number, next-no_number, some_number, no_number, array_begins, object_begins}

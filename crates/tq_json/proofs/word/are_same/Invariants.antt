@@ -1,5 +1,4 @@
-use Rattle.std.proofs.Common.{◌≡◌, ◌≤◌, drop, length}
-use Rattle.std.specs.Str.{bytes_eq}
+use Rattle.std.{proofs.Common.{◌≡◌, ◌≤◌, drop, length}, specs.Str.bytes_eq}
 use Rattle.tq_json.proofs.word.are_same.Given as goal
 
 -- the bytes from the place on are the same, or not

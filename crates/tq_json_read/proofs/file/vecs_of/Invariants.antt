@@ -1,5 +1,4 @@
-use Rattle.std.proofs.Common.{◌≡◌, ◌++◌, map}
-use Rattle.std.specs.Vec.Iter.{into_iter_items}
+use Rattle.std.{proofs.Common.{◌≡◌, ◌++◌, map}, specs.Vec.Iter.into_iter_items}
 use Rattle.tq_json_read.proofs.file.vecs_of.Given as goal
 
 -- the lists that were made, before those that are left, are the lists that were given

@@ -1,6 +1,5 @@
 use Rattle.std.proofs.Common.{◌<◌, length, sym, ◌∙◌, arith}
-use Rattle.tq_json_read.specs.Slots.{texts}
-use Rattle.tq_json_read.proofs.Places.{found_at, passed, length-texts, none_behind}
+use Rattle.tq_json_read.{specs.Slots.texts, proofs.Places.{found_at, passed, length-texts, none_behind}}
 use Rattle.tq_json_read.proofs.object.place_from.Goals as goal
 
 pub returns-then-is_text : goal.returns-then-is_text

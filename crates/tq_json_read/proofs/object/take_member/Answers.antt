@@ -1,6 +1,5 @@
 use Rattle.std.proofs.Common.{ap, ◌∙◌}
-use Rattle.tq_json_read.specs.Slots.{texts, slots_at}
-use Rattle.tq_json_read.proofs.Places.{all_filled, none_filled}
+use Rattle.tq_json_read.{specs.Slots.{texts, slots_at}, proofs.Places.{all_filled, none_filled}}
 use Rattle.tq_json_read.proofs.object.take_member.Goals as goal
 
 pub returns-in_default-clause-ok : goal.returns-in_default-clause-ok

@@ -1,10 +1,8 @@
 use Rattle.std.proofs.Common.{◌≡◌, ◌∷◌, refl, sym, ap, ◌∙◌, arith}
 use Rattle.json.specs.{Token.end_object, Json.read_key}
 use Rattle.serde_json.specs.{Data.no_members, Find.get_member}
-use Rattle.tq_json.specs.Next.{next_members}
-use Rattle.tq_json.proofs.Nexts.{members_end}
-use Rattle.tq_json_read.specs.Slots.{slots_for, members_behind}
-use Rattle.tq_json_read.proofs.Places.{from_there}
+use Rattle.tq_json.{specs.Next.{next_members, members_behind}, proofs.Nexts.members_end}
+use Rattle.tq_json_read.{specs.Slots.slots_for, proofs.Places.from_there}
 use Rattle.tq_json_read.proofs.object.take_members.Goals as goal
 
 pub returns-in_err-slots-clause-err : goal.returns-in_err-slots-clause-err

@@ -1,7 +1,6 @@
 use Rattle.std.proofs.Common.{◌≡◌, ◌∷◌, None, rules, refl, sym, ap, ◌∙◌, arith}
 use Rattle.json.specs.{Token.key, Json.read_key}
-use Rattle.tq_json.proofs.Nexts.{members_stop}
-use Rattle.tq_json_read.specs.Slots.{members_behind}
+use Rattle.tq_json.{proofs.Nexts.members_stop, specs.Next.members_behind}
 use Rattle.tq_json_read.proofs.Places.{named}
 use Rattle.tq_json_read.proofs.object.take_named.Goals as goal
 

@@ -1,6 +1,5 @@
 use Rattle.std.proofs.Common.{ap, ◌∙◌}
-use Rattle.tq_json_read.specs.Slots.{texts, slots_at}
-use Rattle.tq_json_read.proofs.{Places.empty_slots, Rows.no_names_at}
+use Rattle.tq_json_read.{specs.Slots.{texts, slots_at}, proofs.{Places.empty_slots, Rows.no_names_at}}
 use Rattle.tq_json_read.proofs.object.take_object.Goals as goal
 
 pub returns-then-not-branch-clause-ok : goal.returns-then-not-branch-clause-ok

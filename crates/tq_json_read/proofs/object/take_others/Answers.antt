@@ -1,10 +1,8 @@
 use Rattle.std.proofs.Common.{◌≡◌, Some, refl, ap, ◌∙◌, arith}
-use Rattle.json.specs.Json.{read_key}
-use Rattle.json.proofs.Grammar.{read_key-shorter}
+use Rattle.json.{specs.Json.read_key, proofs.Grammar.read_key-shorter}
 use Rattle.serde_json.specs.{Data.put, Find.get_member}
 use Rattle.tq_json.proofs.Nexts.{members_go, members_stop, members_no_key_left, members_end}
-use Rattle.tq_json_read.specs.Slots.{slots_at, texts}
-use Rattle.tq_json_read.proofs.Rows.{with_put}
+use Rattle.tq_json_read.{specs.Slots.{slots_at, texts}, proofs.Rows.with_put}
 use Rattle.tq_json_read.proofs.object.take_others.Goals as goal
 
 pub members-init : goal.members-init

@@ -1,6 +1,7 @@
 use Rattle.std.proofs.Common.{◌≡◌, ◌≤◌, length}
 use Rattle.serde_json.specs.{Data.Members, Find.get_member}
-use Rattle.tq_json_read.specs.Slots.{slots_at, texts, members_behind}
+use Rattle.tq_json_read.specs.Slots.{slots_at, texts}
+use Rattle.tq_json.specs.Next.{members_behind}
 use Rattle.tq_json_read.proofs.object.take_others.Given as goal
 
 -- the members that were found, and what was read of them

@@ -2,8 +2,7 @@ use Rattle.std.proofs.Common.{◌≡◌, ◌≤◌, List, length, Some}
 use Rattle.json.specs.Json.{parse_map}
 use Rattle.serde_json.specs.Data.{Data}
 use Rattle.tq_json.specs.Next.{next_items}
-use Rattle.tq_json_read.specs.Slots.{within_cap}
-use Rattle.tq_json_read.proofs.Rows.{before, Goes}
+use Rattle.tq_json_read.{specs.Slots.within_cap, proofs.Rows.{before, Goes}}
 use Rattle.tq_json_read.proofs.parts.take_items.Given as goal
 
 -- the values that were taken, and what was read of them

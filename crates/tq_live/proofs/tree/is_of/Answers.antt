@@ -1,8 +1,6 @@
-use Rattle.std.proofs.Common.{◌≡◌, nat_eq, ap, ◌∙◌}
-use Rattle.std.specs.Cmp.Lexicographic.{pointwise}
+use Rattle.std.{proofs.Common.{◌≡◌, nat_eq, ap, ◌∙◌}, specs.Cmp.Lexicographic.pointwise}
 use Rattle.tq_shape.specs.ServerSet.{servers_of_numbers}
-use Rattle.tq_coterie.specs.Coterie.{numbers_of}
-use Rattle.tq_coterie.proofs.Parts.{numbers_of-servers_of}
+use Rattle.tq_coterie.{specs.Coterie.numbers_of, proofs.Parts.numbers_of-servers_of}
 use Rattle.tq_live.proofs.tree.is_of.Goals as goal
 
 pub loop-server-init : goal.loop-server-init

@@ -1,5 +1,4 @@
-use Rattle.std.proofs.Common.{◌≡◌, nat_eq}
-use Rattle.std.specs.Cmp.Lexicographic.{pointwise}
+use Rattle.std.{proofs.Common.{◌≡◌, nat_eq}, specs.Cmp.Lexicographic.pointwise}
 use Rattle.tq_coterie.specs.Coterie.{numbers_of}
 use Rattle.tq_live.proofs.tree.is_of.Given as goal
 

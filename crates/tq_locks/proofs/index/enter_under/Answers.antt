@@ -1,6 +1,6 @@
 use Rattle.std.proofs.Common.{◌≡◌, ◌≤◌, ◌∙◌, [], length, cond, ap, sym, subst}
-use Rattle.indexmap.specs.IndexMap.{with_value_at}
 use Rattle.std.specs.{List.insert, Option.option_map_or}
+use Rattle.indexmap.specs.IndexMap.{with_value_at}
 use Rattle.tq_locks.specs.Keys.{keys_under, Enters}
 use Rattle.tq_locks.proofs.Placed.{begun, entry_of, no_list, unwritten, written, OnErr-to, OnOk-to}
 use Rattle.tq_locks.proofs.index.enter_under.Goals as goal

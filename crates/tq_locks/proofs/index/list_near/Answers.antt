@@ -1,5 +1,4 @@
-use Rattle.std.proofs.Common.{ap, position, sym, ◌∙◌}
-use Rattle.std.specs.Map.{keys_of}
+use Rattle.std.{proofs.Common.{ap, position, sym, ◌∙◌}, specs.Map.keys_of}
 use Rattle.indexmap.proofs.{MapLemmas.index-first, RemoveLemmas.own_first}
 use Rattle.tq_locks.proofs.index.list_near.Goals as goal
 

@@ -1,7 +1,6 @@
 use Rattle.std.proofs.Common.{sym, ◌∙◌, subst}
 use Rattle.indexmap.specs.IndexMap.{with_value_at}
-use Rattle.tq_locks.specs.Keys.{HasRoomUnder}
-use Rattle.tq_locks.proofs.Placed.{entry_of, unwritten, room, room_for_list, OnOk-to}
+use Rattle.tq_locks.{specs.Keys.HasRoomUnder, proofs.Placed.{entry_of, unwritten, room, room_for_list, OnOk-to}}
 use Rattle.tq_locks.proofs.index.make_room_under.Goals as goal
 
 pub returns-in-None-clause-room : goal.returns-in-None-clause-room

@@ -1,7 +1,5 @@
-use Rattle.std.proofs.Common.{cond, subst, ap, sym, ◌∙◌}
-use Rattle.std.specs.List.{insert}
-use Rattle.tq_locks.specs.Keys.{keys_under, HasRoomUnder}
-use Rattle.tq_locks.proofs.Placed.{begun, roomy, list_there, written}
+use Rattle.std.{proofs.Common.{cond, subst, ap, sym, ◌∙◌}, specs.List.insert}
+use Rattle.tq_locks.{specs.Keys.{keys_under, HasRoomUnder}, proofs.Placed.{begun, roomy, list_there, written}}
 use Rattle.tq_locks.proofs.index.put_under.Goals as goal
 
 pub returns-in-Some-get_index_mut : goal.returns-in-Some-get_index_mut

@@ -1,7 +1,5 @@
-use Rattle.std.proofs.Common.{cond, ap, sym, ◌∙◌}
-use Rattle.std.specs.List.{remove}
-use Rattle.tq_locks.specs.Keys.{keys_under}
-use Rattle.tq_locks.proofs.Placed.{at_index, list_at_index, written}
+use Rattle.std.{proofs.Common.{cond, ap, sym, ◌∙◌}, specs.List.remove}
+use Rattle.tq_locks.{specs.Keys.keys_under, proofs.Placed.{at_index, list_at_index, written}}
 use Rattle.tq_locks.proofs.index.take_at.Goals as goal
 
 pub returns-in-Some-clause-after : goal.returns-in-Some-clause-after

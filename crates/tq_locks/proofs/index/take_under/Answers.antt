@@ -1,5 +1,4 @@
-use Rattle.std.proofs.Common.{[], ap, sym}
-use Rattle.std.specs.Option.{option_map_or}
+use Rattle.std.{proofs.Common.{[], ap, sym}, specs.Option.option_map_or}
 use Rattle.tq_locks.proofs.Partition.{none_rises}
 use Rattle.tq_locks.proofs.index.take_under.Goals as goal
 

@@ -1,5 +1,4 @@
-use Rattle.std.proofs.Common.{◌≡◌}
-use Rattle.std.specs.Option.{option_copied}
+use Rattle.std.{proofs.Common.◌≡◌, specs.Option.option_copied}
 use Rattle.tq_locks.specs.{Keys.{keys_in, entries_of}, Kept.first_blocker}
 use Rattle.tq_locks.proofs.keyed.held_by.Given as goal
 

@@ -1,6 +1,5 @@
 use Rattle.std.proofs.{Common.{◌+◌, drop, sym, ◌∙◌}, lemmas.List.at_drop_more}
-use Rattle.tq_locks.specs.Locks.{entry_after_steady}
-use Rattle.tq_locks.proofs.Steadied.{steadied-more}
+use Rattle.tq_locks.{specs.Locks.entry_after_steady, proofs.Steadied.steadied-more}
 use Rattle.tq_locks.proofs.keyed.stabilise_each.Goals as goal
 
 pub loop-key-preserved : goal.loop-key-preserved

@@ -1,5 +1,4 @@
-use Rattle.std.proofs.Common.{slice_set, slice_index_or, length, ◌-◌, ap, ◌∙◌, refl}
-use Rattle.std.specs.List.{insert}
+use Rattle.std.{proofs.Common.{slice_set, slice_index_or, length, ◌-◌, ap, ◌∙◌, refl}, specs.List.insert}
 use Rattle.tq_locks.proofs.Rings.{closed}
 use Rattle.tq_locks.proofs.keys.close.Goals as goal
 

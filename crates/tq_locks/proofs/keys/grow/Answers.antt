@@ -1,6 +1,5 @@
 use Rattle.std.proofs.Common.{◌≡◌, ◌+◌, ◌*◌, ◌∷◌, [], length, ap, ◌∙◌, arith, ◌++◌}
-use Rattle.tq_locks.specs.Keys.{turned_keys}
-use Rattle.tq_locks.proofs.Blocks.{one_block_more}
+use Rattle.tq_locks.{specs.Keys.turned_keys, proofs.Blocks.one_block_more}
 use Rattle.tq_locks.proofs.keys.grow.Goals as goal
 
 pub returns-in_ok-reserve-2-clause-same : goal.returns-in_ok-reserve-2-clause-same

@@ -1,7 +1,6 @@
 use Rattle.std.proofs.{Common.{◌<◌, ◌/◌, ◌%◌, length, Some, ap, sym, ◌∙◌, arith}, Math.Nat.mod-lt}
 use Rattle.std.proofs.lemmas.Option.{slice_get-get_or, slice_get_past}
-use Rattle.tq_locks.specs.Keys.{turned_keys}
-use Rattle.tq_locks.proofs.Blocks.{length-turned, key_in_block, key_behind}
+use Rattle.tq_locks.{specs.Keys.turned_keys, proofs.Blocks.{length-turned, key_in_block, key_behind}}
 use Rattle.tq_locks.proofs.keys.key_at.Goals as goal
 
 pub returns-then-at-places : goal.returns-then-at-places

@@ -1,8 +1,7 @@
 use Rattle.std.proofs.Common.{◌≡◌, ◌-◌, ◌*◌, ◌≤◌, ◌<◌, length, ap, sym, ◌∙◌, arith, option_to_list, Some, None, ℕ, List, Option, zero, suc, refl, IsSome, IfNone, [], ◌∷◌}
 use Rattle.std.proofs.lemmas.List.{length-take}
 use mathlib.Core.Bool.{false≢true}
-use Rattle.tq_locks.specs.Keys.{turned_keys}
-use Rattle.tq_locks.proofs.Blocks.{behind_blocks, length-turned}
+use Rattle.tq_locks.{specs.Keys.turned_keys, proofs.Blocks.{behind_blocks, length-turned}}
 use Rattle.tq_locks.proofs.keys.pop.Goals as goal
 
 -- one key less is still behind the blocks

@@ -1,5 +1,4 @@
-use Rattle.std.proofs.Common.{length, ◌-◌, ◌≡◌, ◌*◌, ◌≤◌}
-use Rattle.std.specs.List.{insert}
+use Rattle.std.{proofs.Common.{length, ◌-◌, ◌≡◌, ◌*◌, ◌≤◌}, specs.List.insert}
 use Rattle.tq_locks.specs.Keys.{HasBlocks, turned_keys}
 use Rattle.tq_locks.proofs.keys.push_through.Given as goal
 

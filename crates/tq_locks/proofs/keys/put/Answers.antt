@@ -1,6 +1,5 @@
 use Rattle.std.proofs.Common.{ap, ◌∙◌, arith}
-use Rattle.tq_locks.specs.Keys.{turned_keys}
-use Rattle.tq_locks.proofs.Blocks.{insert_behind}
+use Rattle.tq_locks.{specs.Keys.turned_keys, proofs.Blocks.insert_behind}
 use Rattle.tq_locks.proofs.keys.put.Goals as goal
 
 pub returns-then-place-len-clause-put : goal.returns-then-place-len-clause-put

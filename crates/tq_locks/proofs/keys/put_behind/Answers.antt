@@ -1,8 +1,6 @@
-use Rattle.std.proofs.Common.{◌≡◌, ◌+◌, ◌-◌, length, take, drop, ap, sym, ◌∙◌, arith}
+use Rattle.std.{proofs.Common.{◌≡◌, ◌+◌, ◌-◌, length, take, drop, ap, sym, ◌∙◌, arith}, specs.List.insert}
 use Rattle.std.proofs.lemmas.List.{length-drop, length-take-le}
-use Rattle.std.specs.List.{insert}
-use Rattle.tq_locks.specs.Keys.{turn}
-use Rattle.tq_locks.proofs.Rings.{split_at, came_behind}
+use Rattle.tq_locks.{specs.Keys.turn, proofs.Rings.{split_at, came_behind}}
 use Rattle.tq_locks.proofs.keys.put_behind.Goals as goal
 
 pub returns : goal.returns

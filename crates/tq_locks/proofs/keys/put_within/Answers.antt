@@ -1,7 +1,5 @@
-use Rattle.std.proofs.Common.{◌≡◌, ◌*◌, length, ap, refl, ◌∙◌, arith}
-use Rattle.std.specs.List.{insert}
-use Rattle.tq_locks.specs.Keys.{turned_keys}
-use Rattle.tq_locks.proofs.Blocks.{put_behind, refilled}
+use Rattle.std.{proofs.Common.{◌≡◌, ◌*◌, length, ap, refl, ◌∙◌, arith}, specs.List.insert}
+use Rattle.tq_locks.{specs.Keys.turned_keys, proofs.Blocks.{put_behind, refilled}}
 use Rattle.tq_locks.proofs.keys.put_within.Goals as goal
 
 pub returns-clause-put : goal.returns-clause-put

@@ -1,7 +1,6 @@
 use Rattle.std.proofs.Common.{◌≡◌, ◌+◌, ◌-◌, ◌*◌, ◌∷◌, [], ◌++◌, length, take, drop, ap, sym, refl, ◌∙◌, arith}
 use Rattle.std.proofs.lemmas.List.{length-append}
-use Rattle.tq_locks.specs.Keys.{turned_keys, turn}
-use Rattle.tq_locks.proofs.Blocks.{settled, refilled, length-block, length-over}
+use Rattle.tq_locks.{specs.Keys.{turned_keys, turn}, proofs.Blocks.{settled, refilled, length-block, length-over}}
 use borrow.Rule.Slice.PartMut.{put_mid}
 use Rattle.tq_locks.proofs.keys.settle.Goals as goal
 

@@ -1,5 +1,4 @@
-use Rattle.std.proofs.Common.{◌≡◌, ◌-◌, ◌<◌, suc, length, ap, sym, ◌∙◌, arith}
-use Rattle.std.specs.List.{insert, swap}
+use Rattle.std.{proofs.Common.{◌≡◌, ◌-◌, ◌<◌, suc, length, ap, sym, ◌∙◌, arith}, specs.List.{insert, swap}}
 use Rattle.tq_locks.proofs.Rings.{longer, swapped}
 use Rattle.tq_locks.proofs.keys.sink.Goals as goal
 

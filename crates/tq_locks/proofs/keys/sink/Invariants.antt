@@ -1,5 +1,4 @@
-use Rattle.std.proofs.Common.{◌≡◌, ◌<◌, ◌≤◌, ◌++◌, ℕ, List, [], ◌∷◌, length}
-use Rattle.std.specs.List.{insert}
+use Rattle.std.{proofs.Common.{◌≡◌, ◌<◌, ◌≤◌, ◌++◌, ℕ, List, [], ◌∷◌, length}, specs.List.insert}
 use Rattle.tq_locks.proofs.keys.sink.Given as goal
 
 -- the key is at a place that is not below its own

@@ -1,6 +1,5 @@
 use Rattle.std.proofs.Common.{◌≡◌, ◌<◌, ◌+◌, ◌*◌, ◌-◌, ◌%◌, suc, length, take, drop, slice_index_or, slice_set, ap, sym, refl, ◌∙◌, arith}
-use Rattle.std.proofs.lemmas.List.{length-set, set-get_or}
-use Rattle.std.specs.List.{insert}
+use Rattle.std.{proofs.lemmas.List.{length-set, set-get_or}, specs.List.insert}
 use Rattle.tq_locks.specs.Keys.{turn, turned_keys}
 use borrow.Rule.Slice.PartMut.{put_mid}
 use Rattle.tq_locks.proofs.{Rings.{length-turn, behind_others}, Blocks.{written_over, length-block, at_end}}

@@ -1,6 +1,5 @@
 use Rattle.std.proofs.{Common.{◌≡◌, ◌*◌, ◌<◌, length, ◌+◌, ap, refl, ◌∙◌, arith}, lemmas.List.get_or_read}
-use Rattle.std.proofs.lemmas.List.Edits.{length-remove}
-use Rattle.std.specs.List.{insert, remove}
+use Rattle.std.{proofs.lemmas.List.Edits.length-remove, specs.List.{insert, remove}}
 use Rattle.tq_locks.specs.Keys.{turned_keys}
 use Rattle.tq_locks.proofs.Blocks.{none_past, remove_behind, taken_out, refilled, length-turned}
 use Rattle.tq_locks.proofs.keys.take_out.Goals as goal

@@ -1,7 +1,5 @@
-use Rattle.std.proofs.Common.{ap}
-use Rattle.std.specs.Option.{option_copied}
-use Rattle.tq_locks.specs.Keys.{keys_in}
-use Rattle.tq_locks.proofs.Partition.{none_rises}
+use Rattle.std.{proofs.Common.ap, specs.Option.option_copied}
+use Rattle.tq_locks.{specs.Keys.keys_in, proofs.Partition.none_rises}
 use Rattle.tq_locks.proofs.lists.place.Goals as goal
 
 pub returns-in_default-clause-place : goal.returns-in_default-clause-place

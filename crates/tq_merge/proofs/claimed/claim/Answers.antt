@@ -1,7 +1,6 @@
 use Rattle.std.proofs.{Common.{◌≡◌, ◌≤◌, ◌∙◌, List, Bool, length, ap, sym, subst, arith}, lemmas.List.take_all}
 use Rattle.std.specs.{List.{All, sum_by}, Prelude.{not, count_by, take}}
-use Rattle.tq_merge.specs.Told.{AreDifferent}
-use Rattle.tq_merge.proofs.Marked.{KeepsMarks, next_twice, next_once, all_short, unnamed_is}
+use Rattle.tq_merge.{specs.Told.AreDifferent, proofs.Marked.{KeepsMarks, next_twice, next_once, all_short, unnamed_is}}
 use Rattle.tq_merge.proofs.claimed.claim.Goals as goal
 
 pub returns-then-not-name : goal.returns-then-not-name

@@ -1,6 +1,5 @@
 use Rattle.std.proofs.Common.{take}
-use Rattle.tq_merge.specs.Told.{AreDifferent}
-use Rattle.tq_merge.proofs.Marked.{KeepsMarks}
+use Rattle.tq_merge.{specs.Told.AreDifferent, proofs.Marked.KeepsMarks}
 use Rattle.tq_merge.proofs.claimed.claim.Given as goal
 
 abbrev pub invariant-loop-name : goal.invariant-loop-name

@@ -1,7 +1,5 @@
-use Rattle.std.proofs.Common.{◌≡◌, take, length}
-use Rattle.std.specs.Prelude.{vec_len}
-use Rattle.tq_merge.specs.Told.{Rise}
-use Rattle.tq_merge.proofs.LastNumbers.{KeepsLast}
+use Rattle.std.{proofs.Common.{◌≡◌, take, length}, specs.Prelude.vec_len}
+use Rattle.tq_merge.{specs.Told.Rise, proofs.LastNumbers.KeepsLast}
 use Rattle.tq_merge.proofs.claimed.first_fallen.Given as goal
 
 abbrev pub invariant-loop-name : goal.invariant-loop-name

@@ -1,5 +1,4 @@
-use Rattle.std.proofs.Common.{◌≡◌, take}
-use Rattle.std.specs.List.{All}
+use Rattle.std.{proofs.Common.{◌≡◌, take}, specs.List.All}
 use Rattle.tq_merge.specs.Told.{Rise, Stands, names_of, all_names}
 use Rattle.tq_merge.proofs.compared.compare.Given as goal
 

@@ -1,9 +1,7 @@
-use Rattle.std.proofs.Common.{◌≡◌, ◌≤◌, ◌∷◌, ◌∙◌, ℕ, List, length, map, take, ap, sym, subst, arith}
+use Rattle.std.{proofs.Common.{◌≡◌, ◌≤◌, ◌∷◌, ◌∙◌, ℕ, List, length, map, take, ap, sym, subst, arith}, specs.List.All}
 use Rattle.std.proofs.lemmas.List.{take_all}
-use Rattle.std.specs.List.{All}
 use Rattle.tq_shape.specs.Limits.{LimitsView}
-use Rattle.tq_merge.specs.Told.{entry_counts}
-use Rattle.tq_merge.proofs.Legality.{each_length, short_counts}
+use Rattle.tq_merge.{specs.Told.entry_counts, proofs.Legality.{each_length, short_counts}}
 use Rattle.tq_merge.proofs.lengths.counts.Goals as goal
 
 value : (c : goal.After-loop-entries) → c.loop-entries.counts.items ≡ entry_counts c.args.journals.now

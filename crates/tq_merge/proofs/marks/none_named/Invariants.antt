@@ -1,5 +1,4 @@
-use Rattle.std.proofs.Common.{◌≡◌, take}
-use Rattle.std.specs.Prelude.{false, map, replicate}
+use Rattle.std.{proofs.Common.{◌≡◌, take}, specs.Prelude.{false, map, replicate}}
 use Rattle.tq_merge.proofs.marks.none_named.Given as goal
 
 abbrev pub invariant-loop-count : goal.invariant-loop-count

@@ -1,5 +1,4 @@
-use Rattle.std.proofs.Common.{◌≡◌, ◌≤◌, ◌*◌, take}
-use Rattle.std.specs.{Prelude.{not, count_by}, List.sum_by}
+use Rattle.std.{proofs.Common.{◌≡◌, ◌≤◌, ◌*◌, take}, specs.{Prelude.{not, count_by}, List.sum_by}}
 use Rattle.tq_merge.proofs.marks.unnamed_in.Given as goal
 
 abbrev pub invariant-loop-named : goal.invariant-loop-named

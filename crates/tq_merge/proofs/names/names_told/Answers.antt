@@ -1,5 +1,4 @@
-use Rattle.std.proofs.{Common.{sym, ap, ◌∙◌}, lemmas.Bool.false≢true}
-use Rattle.std.specs.Option.{option_to_list}
+use Rattle.std.{proofs.{Common.{sym, ap, ◌∙◌}, lemmas.Bool.false≢true}, specs.Option.option_to_list}
 use Rattle.tq_merge.proofs.Legality.{no_name, one_name, has_item}
 use Rattle.tq_merge.proofs.names.names_told.Goals as goal
 

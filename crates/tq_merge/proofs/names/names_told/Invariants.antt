@@ -1,5 +1,4 @@
-use Rattle.std.proofs.Common.{◌≡◌, take}
-use Rattle.std.specs.List.{All}
+use Rattle.std.{proofs.Common.{◌≡◌, take}, specs.List.All}
 use Rattle.tq_merge.specs.Told.{Stands, names_of}
 use Rattle.tq_merge.proofs.names.names_told.Given as goal
 

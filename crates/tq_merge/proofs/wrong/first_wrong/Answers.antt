@@ -1,7 +1,5 @@
-use Rattle.std.specs.Prelude.{reverse}
-use Rattle.std.proofs.Common.{◌≡◌, ℕ, List, subst}
-use Rattle.tq_shape.specs.Limits.{LimitsView}
-use Rattle.tq_shape.proofs.Joined.{legal-reverse}
+use Rattle.std.{specs.Prelude.reverse, proofs.Common.{◌≡◌, ℕ, List, subst}}
+use Rattle.tq_shape.{specs.Limits.LimitsView, proofs.Joined.legal-reverse}
 use Rattle.tq_desk.specs.DeskJournal.{IsLegalDesk, step_reply, step_after, opened_desk, DeskEntry}
 use Rattle.tq_live.specs.View.{IsLegalView}
 use Rattle.tq_tables.specs.{Journals.ViewEntry, Parts.{AreLegalServers, bounds_of}}

@@ -1,8 +1,7 @@
 use Rattle.std.proofs.Common.{◌≡◌, ◌+◌, ℕ, List, ap, subst}
 use Rattle.tq_shape.specs.Tree.{Server}
 use Rattle.tq_node.specs.NodeJournal.{NodeEntry}
-use Rattle.tq_merge.specs.Wrong.{IsLegalServer, IsWrongOfServer}
-use Rattle.tq_merge.proofs.Legality.{servers_legal, servers_wrong}
+use Rattle.tq_merge.{specs.Wrong.{IsLegalServer, IsWrongOfServer}, proofs.Legality.{servers_legal, servers_wrong}}
 use Rattle.tq_merge.proofs.wrong.wrong_of_servers.Goals as goal
 
 pub returns-in-Some : goal.returns-in-Some

@@ -1,8 +1,7 @@
 use Rattle.std.proofs.Common.{◌≡◌, ◌+◌, length, take}
 use Rattle.tq_shape.specs.Tree.{IsServer}
 use Rattle.tq_tables.specs.Journals.{JournalsView}
-use Rattle.tq_mirror.specs.Prefixes.{AreKept, server_prefix}
-use Rattle.tq_mirror.proofs.Standing.{ServerLed}
+use Rattle.tq_mirror.{specs.Prefixes.{AreKept, server_prefix}, proofs.Standing.ServerLed}
 use Rattle.tq_mirror.proofs.following.follow_server.Given as goal
 
 -- the tables were asked what the entries so far ask, and gave their replies; the last of them had that number

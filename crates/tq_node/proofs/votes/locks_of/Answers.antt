@@ -1,8 +1,7 @@
 use Rattle.std.proofs.{Common.{◌≡◌, map, ◌∙◌, arith}, lemmas.Grind.common_steps}
 use Rattle.tq_intents.specs.Sharing.{kept_each}
 use Rattle.tq_locks.specs.Locks.{held_of}
-use Rattle.tq_node.specs.Records.{held_lock}
-use Rattle.tq_node.proofs.LocksWalked.{kept_each-map, version_of}
+use Rattle.tq_node.{specs.Records.held_lock, proofs.LocksWalked.{kept_each-map, version_of}}
 use Rattle.tq_node.proofs.votes.locks_of.Goals as goal
 
 pub loop-entry-preserved : goal.loop-entry-preserved

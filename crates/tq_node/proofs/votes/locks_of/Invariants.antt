@@ -1,7 +1,6 @@
 use Rattle.std.proofs.Common.{◌≡◌, ◌≤◌, ◌+◌, ◌++◌, length, map, vec_capacity, vec_len}
 use Rattle.tq_locks.specs.Locks.{held_of}
-use Rattle.tq_node.specs.Records.{held_lock}
-use Rattle.tq_node.proofs.LocksWalked.{version_of}
+use Rattle.tq_node.{specs.Records.held_lock, proofs.LocksWalked.version_of}
 use Rattle.tq_node.proofs.votes.locks_of.Given as goal
 
 abbrev pub invariant-loop-entry : goal.invariant-loop-entry

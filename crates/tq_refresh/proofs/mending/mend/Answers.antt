@@ -1,8 +1,7 @@
 use Rattle.std.proofs.Common.{Option, subst, sym, ◌∙◌}
 use Rattle.tq_asks.specs.declared.ask.{NodeAsk.NodeAsk, NodeAsk.TheVariants.Work, WorkAsk.TheVariants.Peek}
 use Rattle.tq_txn_states.specs.declared.told.NodeTold.{NodeTold}
-use Rattle.tq_refresh.specs.Plan.{IsAnswered}
-use Rattle.tq_refresh.proofs.Walked.{mended}
+use Rattle.tq_refresh.{specs.Plan.IsAnswered, proofs.Walked.mended}
 use Rattle.tq_refresh.proofs.mending.mend.Goals as goal
 
 pub returns-clause-asked : goal.returns-clause-asked

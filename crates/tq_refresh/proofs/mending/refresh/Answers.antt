@@ -1,6 +1,5 @@
 use Rattle.std.proofs.Common.{sym, ◌∙◌}
-use Rattle.tq_refresh.specs.Plan.{Grows, worker_asked}
-use Rattle.tq_refresh.proofs.Walked.{refreshed, not_refused}
+use Rattle.tq_refresh.{specs.Plan.{Grows, worker_asked}, proofs.Walked.{refreshed, not_refused}}
 use Rattle.tq_refresh.proofs.mending.refresh.Goals as goal
 
 pub returns-clause-asked : goal.returns-clause-asked

@@ -1,5 +1,4 @@
-use Rattle.std.proofs.Common.{◌≡◌, ◌++◌, filter, Some}
-use Rattle.std.specs.List.{All}
+use Rattle.std.{proofs.Common.{◌≡◌, ◌++◌, filter, Some}, specs.List.All}
 use Rattle.tq_shape.specs.ServerSet.{has_number}
 use Rattle.tq_refresh.specs.Plan.{servers_in, jobs_from}
 use Rattle.tq_refresh.proofs.planning.add_jobs.Given as goal

@@ -1,8 +1,7 @@
 use Rattle.std.proofs.Common.{List, Some, filter, find, ap, sym, ◌∙◌}
 use Rattle.tq_shape.specs.{ServerSet.Servers, Tree.Server}
 use Rattle.tq_live.specs.Live.{is_up}
-use Rattle.tq_refresh.specs.Plan.{servers_in, jobs_from, jobs_in}
-use Rattle.tq_refresh.proofs.{Marked.filter-up, Walked.no-jobs}
+use Rattle.tq_refresh.{specs.Plan.{servers_in, jobs_from, jobs_in}, proofs.{Marked.filter-up, Walked.no-jobs}}
 use Rattle.tq_refresh.proofs.planning.file_jobs.Goals as goal
 
 pub returns-in_default-clause-value : goal.returns-in_default-clause-value

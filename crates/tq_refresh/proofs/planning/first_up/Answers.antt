@@ -1,7 +1,6 @@
 use Rattle.std.proofs.Common.{◌≡◌, Some, None, find, ap, sym, ◌∙◌, rules}
 use Rattle.tq_shape.specs.{ServerSet.has_number, Tree.Server}
-use Rattle.tq_refresh.specs.Plan.{servers_in}
-use Rattle.tq_refresh.proofs.{Marked.find-up, Walked.{of_one_tree, left_of_tree, find-passed}}
+use Rattle.tq_refresh.{specs.Plan.servers_in, proofs.{Marked.find-up, Walked.{of_one_tree, left_of_tree, find-passed}}}
 use Rattle.tq_refresh.proofs.planning.first_up.Goals as goal
 
 pub loop-current-init : goal.loop-current-init

@@ -1,5 +1,4 @@
-use Rattle.std.proofs.Common.{◌≡◌, find}
-use Rattle.std.specs.List.{All}
+use Rattle.std.{proofs.Common.{◌≡◌, find}, specs.List.All}
 use Rattle.tq_shape.specs.ServerSet.{has_number}
 use Rattle.tq_refresh.specs.Plan.{servers_in}
 use Rattle.tq_refresh.proofs.planning.first_up.Given as goal

@@ -1,7 +1,5 @@
-use Rattle.std.proofs.Common.{◌≡◌, List, ap, subst, sym, ◌∙◌}
-use Rattle.std.specs.List.{All, flat_map}
-use Rattle.tq_refresh.specs.{declared.job.Job.Job, Plan.jobs_in}
-use Rattle.tq_refresh.proofs.Walked.{jobs-of_tree, all_walked}
+use Rattle.std.{proofs.Common.{◌≡◌, List, ap, subst, sym, ◌∙◌}, specs.List.{All, flat_map}}
+use Rattle.tq_refresh.{specs.{declared.job.Job.Job, Plan.jobs_in}, proofs.Walked.{jobs-of_tree, all_walked}}
 use Rattle.tq_refresh.proofs.planning.plan.Goals as goal
 
 pub returns-clause-of_tree : goal.returns-clause-of_tree

@@ -1,6 +1,5 @@
-use Rattle.std.proofs.Common.{◌∷◌, [], ℕ, Option, subst, sym, ap, ◌∙◌}
+use Rattle.std.{proofs.Common.{◌∷◌, [], ℕ, Option, subst, sym, ap, ◌∙◌}, specs.{Prelude.IfSome, List.All}}
 use Rattle.std.proofs.lemmas.List.Elements.{All-append, All-cons, All-nil}
-use Rattle.std.specs.{Prelude.IfSome, List.All}
 use Rattle.tq_refresh.specs.{declared.file_jobs.FileJobs.FileJobs, Plan.{IsPlanned, jobs_in, jobs_of}}
 use Rattle.tq_refresh.proofs.Walked.{none_gathered, one_gathered}
 use Rattle.tq_refresh.proofs.planning.plan_rows.Goals.{in-Some+in_ok-push, in_default}

@@ -1,5 +1,4 @@
-use Rattle.std.proofs.Common.{◌≡◌, ◌++◌, drop}
-use Rattle.std.specs.List.{All, flat_map}
+use Rattle.std.{proofs.Common.{◌≡◌, ◌++◌, drop}, specs.List.{All, flat_map}}
 use Rattle.tq_refresh.specs.Plan.{IsPlanned, jobs_in, jobs_of}
 use Rattle.tq_refresh.proofs.planning.plan_rows.Given as goal
 

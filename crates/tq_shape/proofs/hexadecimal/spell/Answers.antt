@@ -1,6 +1,5 @@
 use Rattle.std.proofs.Common.{arith, slice_index}
-use Rattle.hex.specs.Hex.{lower_digits}
-use Rattle.hex.proofs.Pairs.{encode_step, encode_done}
+use Rattle.hex.{specs.Hex.lower_digits, proofs.Pairs.{encode_step, encode_done}}
 use Rattle.tq_shape.proofs.Digits.{pair_at}
 use Rattle.tq_shape.proofs.hexadecimal.spell.Goals as goal
 

@@ -1,8 +1,6 @@
 use Rattle.std.proofs.Common.{◌∙◌, ℕ, List, [], refl, subst}
-use Rattle.tq_devices.proofs.Written.{Appends-none}
-use Rattle.tq_devices.specs.declared.fault.RunFault.TheVariants.{Memory}
-use Rattle.tq_shell.specs.Audit.{IsAudited, status_of, IsVerdict}
-use Rattle.tq_shell.proofs.ReportLaws.{by_fault, ends_write}
+use Rattle.tq_devices.{proofs.Written.Appends-none, specs.declared.fault.RunFault.TheVariants.Memory}
+use Rattle.tq_shell.{specs.Audit.{IsAudited, status_of, IsVerdict}, proofs.ReportLaws.{by_fault, ends_write}}
 use Rattle.tq_shell.proofs.auditing.audit.Goals as goal
 
 pub returns-in_err-line-clause-text : goal.returns-in_err-line-clause-text

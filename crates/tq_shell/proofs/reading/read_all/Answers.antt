@@ -1,5 +1,4 @@
-use Rattle.tq_shell.specs.Reading.{IsReadFault}
-use Rattle.tq_shell.proofs.ReportLaws.{fault_is, never_ok, of_file}
+use Rattle.tq_shell.{specs.Reading.IsReadFault, proofs.ReportLaws.{fault_is, never_ok, of_file}}
 use Rattle.tq_shell.proofs.reading.read_all.Goals as goal
 
 pub returns-in_err-bytes-clause-bytes : goal.returns-in_err-bytes-clause-bytes

@@ -1,8 +1,6 @@
 use Rattle.std.proofs.Common.{◌++◌, ◌∙◌, take}
-use Rattle.tq_devices.proofs.Written.{Appends-then}
-use Rattle.tq_devices.specs.declared.fault.RunFault.TheVariants.{Memory}
-use Rattle.tq_shell.specs.Reading.{IsSourceFault}
-use Rattle.tq_shell.proofs.ReportLaws.{fault_is, never_ok}
+use Rattle.tq_devices.{proofs.Written.Appends-then, specs.declared.fault.RunFault.TheVariants.Memory}
+use Rattle.tq_shell.{specs.Reading.IsSourceFault, proofs.ReportLaws.{fault_is, never_ok}}
 use Rattle.tq_shell.proofs.reading.read_within.Goals as goal
 
 pub returns-in_err-extend_from_slice-clause-bytes : goal.returns-in_err-extend_from_slice-clause-bytes

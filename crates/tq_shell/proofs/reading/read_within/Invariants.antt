@@ -1,5 +1,4 @@
-use Rattle.std.proofs.Common.{◌≡◌, ◌+◌, ◌-◌, length}
-use Rattle.std.specs.Io.KnownBytes.{Appends}
+use Rattle.std.{proofs.Common.{◌≡◌, ◌+◌, ◌-◌, length}, specs.Io.KnownBytes.Appends}
 use Rattle.tq_shell.proofs.reading.read_within.Given as goal
 
 -- what the source has given is kept

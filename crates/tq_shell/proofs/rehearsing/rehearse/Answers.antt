@@ -1,6 +1,5 @@
 use Rattle.std.proofs.Common.{◌∙◌, ℕ, List, [], refl, subst, sym, inl}
-use Rattle.tq_devices.proofs.Written.{Appends-none}
-use Rattle.tq_devices.specs.declared.fault.RunFault.TheVariants.{Memory}
+use Rattle.tq_devices.{proofs.Written.Appends-none, specs.declared.fault.RunFault.TheVariants.Memory}
 use Rattle.tq_shell.specs.{Rehearsal.IsRefusedFile, Audit.status_of}
 use Rattle.tq_shell.proofs.ReportLaws.{not_read, refused_file, turned_away, ends_write}
 use Rattle.tq_shell.proofs.rehearsing.rehearse.Goals as goal

@@ -1,8 +1,7 @@
 use Rattle.std.proofs.Common.{◌≡◌, ◌≤◌, ◌-◌, ◌<◌, length, take, drop, refl, ◌∙◌, arith, rules}
 use Rattle.std.proofs.lemmas.List.{length-take-le, length-drop, take_all}
 use Rattle.tq_devices.specs.declared.fault.RunFault.TheVariants.{Memory}
-use Rattle.tq_shell.specs.Stream.{taken_at_once}
-use Rattle.tq_shell.proofs.Pieces.{no-bytes, taken_some}
+use Rattle.tq_shell.{specs.Stream.taken_at_once, proofs.Pieces.{no-bytes, taken_some}}
 use Rattle.tq_shell.proofs.SessionLaws.{by_fault, piece_splits, behind_some, said_alone, ends_read, ends_memory, ends_last, ends_piece, goes_on, ends_too_long, answering_ends, answering_on, answering_whole, answering_fails}
 use Rattle.tq_shell.proofs.session.answer_pieces.Goals as goal
 

@@ -1,8 +1,7 @@
 use Rattle.std.proofs.Common.{◌∙◌, ap, rules, subst}
 use Rattle.tq_devices.specs.declared.fault.RunFault.TheVariants.{Memory}
 use Rattle.tq_interpreter.specs.Answer.{World, opening}
-use Rattle.tq_shell.specs.Stream.{Received}
-use Rattle.tq_shell.proofs.SessionLaws.{HasRun, by_fault, ends_before}
+use Rattle.tq_shell.{specs.Stream.Received, proofs.SessionLaws.{HasRun, by_fault, ends_before}}
 use Rattle.tq_shell.proofs.session.run.Goals as goal
 
 pub returns-in_err-shell-clause-text : goal.returns-in_err-shell-clause-text

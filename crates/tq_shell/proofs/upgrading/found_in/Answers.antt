@@ -1,7 +1,6 @@
 use Rattle.std.proofs.Common.{◌≡◌, ℕ, List, Err, subst}
 use Rattle.tq_tables.specs.Journals.{JournalsView}
-use Rattle.tq_json_read.specs.declared.fault.{ReadFault.ReadFault, ReadFault.TheVariants.NotJson}
-use Rattle.tq_json_read.specs.Frame.{Answers, journals_of}
+use Rattle.tq_json_read.specs.{declared.fault.ReadFault.{ReadFault, TheVariants.NotJson}, Frame.{Answers, journals_of}}
 use Rattle.tq_shell.specs.{declared.audit_finding.AuditFinding.TheVariants.Unreadable, Audit.IsVerdict}
 use Rattle.tq_shell.proofs.upgrading.found_in.Goals as goal
 

@@ -1,5 +1,4 @@
-use Rattle.std.proofs.Common.{◌≡◌, ◌++◌, ◌∷◌, sym, ap, subst, ◌∙◌, rules}
-use Rattle.std.specs.{List.IsDistinct, Map.keys_of}
+use Rattle.std.{proofs.Common.{◌≡◌, ◌++◌, ◌∷◌, sym, ap, subst, ◌∙◌, rules}, specs.{List.IsDistinct, Map.keys_of}}
 use Rattle.indexmap.proofs.MapLemmas.{absent_before}
 use Rattle.tq_store.proofs.Placed.{none_found}
 use Rattle.tq_store.proofs.bounded.move_all.Goals as goal

@@ -1,5 +1,4 @@
-use Rattle.std.proofs.Common.{◌≡◌, ◌+◌, ◌++◌, length}
-use Rattle.std.specs.{List.IsDistinct, Map.keys_of}
+use Rattle.std.{proofs.Common.{◌≡◌, ◌+◌, ◌++◌, length}, specs.{List.IsDistinct, Map.keys_of}}
 use Rattle.indexmap.specs.IndexMap.{spare}
 use Rattle.tq_store.proofs.bounded.move_all.Given as goal
 

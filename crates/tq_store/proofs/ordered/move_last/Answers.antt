@@ -1,5 +1,4 @@
-use Rattle.std.proofs.Common.{arith, ap}
-use Rattle.std.specs.{Map.lookup, BTreeMap.is_at}
+use Rattle.std.{proofs.Common.{arith, ap}, specs.{Map.lookup, BTreeMap.is_at}}
 use Rattle.tq_store.proofs.Placed.{last_there, must_be_ok, placed_last, placed_moved}
 use Rattle.tq_store.proofs.ordered.move_last.Goals as goal
 

@@ -1,6 +1,5 @@
 use Rattle.std.proofs.Common.{ℕ, List, length, nat_lt, arith, subst}
-use Rattle.tq_syntax.specs.Scripts.{IsRead, lines_within}
-use Rattle.tq_syntax.proofs.ByteLaws.{front_bytes}
+use Rattle.tq_syntax.{specs.Scripts.{IsRead, lines_within}, proofs.ByteLaws.front_bytes}
 use Rattle.tq_syntax.proofs.reader.read_scripts.Goals as goal
 
 pub returns : goal.returns

@@ -1,5 +1,4 @@
-use Rattle.std.proofs.Common.{◌≡◌, ◌≤◌, drop}
-use Rattle.std.specs.List.{slice_range}
+use Rattle.std.{proofs.Common.{◌≡◌, ◌≤◌, drop}, specs.List.slice_range}
 use Rattle.tq_syntax.specs.{Gathering.nothing_gathered, Scripts.lines_within}
 use Rattle.tq_syntax.proofs.{ByteLaws.lines_left, GatheringLaws.run}
 use Rattle.tq_syntax.proofs.reader.read_within.Given as goal

@@ -1,5 +1,4 @@
-use Rattle.std.proofs.Common.{◌≡◌, drop, nat_eq, length}
-use Rattle.std.specs.{Cmp.Lexicographic.pointwise, Str.bytes_eq}
+use Rattle.std.{proofs.Common.{◌≡◌, drop, nat_eq, length}, specs.{Cmp.Lexicographic.pointwise, Str.bytes_eq}}
 use Rattle.tq_syntax.proofs.word.is_same.Given as goal
 
 -- what is left of the two is the same where they are

@@ -1,7 +1,6 @@
 use Rattle.std.proofs.Common.{ap, sym, subst, ◌∙◌}
 use Rattle.tq_shape.specs.ServerSet.{Servers, servers_of_numbers}
-use Rattle.tq_tables.specs.{Files.stood_in, Parts.AreOfTree}
-use Rattle.tq_tables.proofs.Settled.{first-exact}
+use Rattle.tq_tables.{specs.{Files.stood_in, Parts.AreOfTree}, proofs.Settled.first-exact}
 use Rattle.tq_tables.proofs.file_rows.first_row.Goals as goal
 
 pub set_currency_of_each-requires-clause-of_tree : goal.set_currency_of_each-requires-clause-of_tree

@@ -1,5 +1,4 @@
-use Rattle.std.specs.Prelude.{IfOk}
-use Rattle.std.proofs.Common.{◌≡◌, true, ◌+◌, ◌<◌, ◌^◌, ℕ, ap, sym, subst, ◌∙◌}
+use Rattle.std.{specs.Prelude.IfOk, proofs.Common.{◌≡◌, true, ◌+◌, ◌<◌, ◌^◌, ℕ, ap, sym, subst, ◌∙◌}}
 use Rattle.tq_tables.specs.{Parts.AreOfTree, Rows.{row_at, servers_where}, declared.file_row.FileRow.FileRow}
 use Rattle.tq_tables.proofs.Kept.{exact-found, no_row, version-none, version-some}
 use Rattle.tq_tables.proofs.file_rows.next_row.Goals as goal

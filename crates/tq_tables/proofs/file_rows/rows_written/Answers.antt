@@ -1,7 +1,6 @@
 use Rattle.std.proofs.Common.{◌+◌, ℕ, List, map, ap, sym, ◌∙◌}
-use Rattle.tq_tables.specs.Files.{version_in}
+use Rattle.tq_tables.{specs.Files.version_in, proofs.Written.names-none}
 use Rattle.tq_tables.specs.Rows as spec
-use Rattle.tq_tables.proofs.Written.{names-none}
 use Rattle.tq_tables.proofs.file_rows.rows_written.Goals as goal
 
 pub returns-in-empty : goal.returns-in-empty

@@ -1,10 +1,8 @@
 use Rattle.std.proofs.Common.{◌≡◌, ◌∙◌, ◌≤◌, Bool, true, false, not, true≢false, refl, List, ℕ, ap, sym, subst}
 use Rattle.std.proofs.lemmas.Option.{same_Some}
 use Rattle.indexmap.specs.IndexMap.{set_value_at}
-use Rattle.tq_store.specs.{Copies.copy_of, Names.same_name}
-use Rattle.tq_store.proofs.Padded.{same_name-is, same_name-refl}
-use Rattle.tq_tables.specs.declared.file_row.FileRow.{FileRow}
-use Rattle.tq_tables.proofs.Placed.{no-value-at, set-same, value-at}
+use Rattle.tq_store.{specs.{Copies.copy_of, Names.same_name}, proofs.Padded.{same_name-is, same_name-refl}}
+use Rattle.tq_tables.{specs.declared.file_row.FileRow.FileRow, proofs.Placed.{no-value-at, set-same, value-at}}
 use Rattle.tq_tables.proofs.file_table.set_currency_in.Goals as goal
 
 -- a test that names differ, which says no

@@ -1,6 +1,5 @@
-use Rattle.std.proofs.Common.{◌≡◌, ◌++◌, map}
+use Rattle.std.{proofs.Common.{◌≡◌, ◌++◌, map}, specs.Vec.Iter.into_iter_items}
 use Rattle.std.specs.FinMap as fin
-use Rattle.std.specs.Vec.Iter.{into_iter_items}
 use Rattle.tq_tables.specs.Rows.{lock_row}
 use Rattle.tq_tables.proofs.lock_rows.push_locks.Given as goal
 

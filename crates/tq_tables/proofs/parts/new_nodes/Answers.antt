@@ -2,8 +2,7 @@ use Rattle.std.proofs.Common.{◌≡◌, ℕ, ◌+◌, ◌++◌, ◌∷◌, [], 
 use Rattle.std.proofs.lemmas.List.{length-replicate, replicate_more}
 use Rattle.tq_node.specs.NodeJournal.{NodeEntry}
 use Rattle.tq_shape.specs.Tree.{Server}
-use Rattle.tq_tables.specs.Parts.{node_after_all, nodes_at}
-use Rattle.tq_tables.proofs.RowLaws.{nodes_at-push}
+use Rattle.tq_tables.{specs.Parts.{node_after_all, nodes_at}, proofs.RowLaws.nodes_at-push}
 use Rattle.tq_tables.proofs.parts.new_nodes.Goals as goal
 
 pub loop-below-preserved : goal.loop-below-preserved

@@ -1,6 +1,5 @@
 use Rattle.std.proofs.Common.{sym, subst}
-use Rattle.tq_tables.specs.Reserved.{AreReady, IsReserve}
-use Rattle.tq_tables.proofs.Noted.{copied-ready}
+use Rattle.tq_tables.{specs.Reserved.{AreReady, IsReserve}, proofs.Noted.copied-ready}
 use Rattle.tq_tables.proofs.tables.copy_ready.Goals as goal
 
 pub returns-in_ok-new-in-Some-clause-after : goal.returns-in_ok-new-in-Some-clause-after

@@ -1,9 +1,8 @@
 use Rattle.std.proofs.Common.{Err, refl, rules}
-use Rattle.tq_txn.specs.{Commits.{commit_end, prepares_line}, Dialogue.ended_by}
-use Rattle.tq_txn.specs.declared.txn.Txn.TheVariants as states
+use Rattle.tq_txn.{specs.{Commits.{commit_end, prepares_line}, Dialogue.ended_by}, proofs.KnownLaws.cites_on}
 use Rattle.tq_txn.proofs.CommitLaws.{commit_off, commit_on, decide_off, decide_on, ending_behind, ending_none, ending_voted}
 use Rattle.tq_txn.proofs.Deskless.{deskless_cites, deskless_commit_end, deskless_prepares, deskless_untold}
-use Rattle.tq_txn.proofs.KnownLaws.{cites_on}
+use Rattle.tq_txn.specs.declared.txn.Txn.TheVariants as states
 use Rattle.tq_txn.proofs.commits.commit.Goals as goal
 
 pub end_committed-requires-clause-knows : goal.end_committed-requires-clause-knows

@@ -2,10 +2,12 @@ use Rattle.std.proofs.Common.{◌∙◌, ℕ, Ok, Err, rules, sym, ap, subst}
 use Rattle.tq_desk.specs.{DeskStep.HasGoodEvidence, declared.ask.DeskAsk.DeskAsk}
 use Rattle.tq_txn_states.specs.Voting.{VotesOnly, VotingView}
 use Rattle.tq_txn.specs.declared.txn.Txn.TheVariants as states
-use Rattle.tq_txn.specs.Told.{IsEnding, answers_in}
+use Rattle.tq_txn.{specs.Told.{IsEnding, answers_in}, proofs.{KnownLaws.cites_ask, LineLaws.told_desk}}
 use Rattle.tq_txn.proofs.CommitLaws.{decide_ready, ready_on, ending_answered, ending_none, ending_refused, levels_still, untold_none}
-use Rattle.tq_txn.proofs.{KnownLaws.cites_ask, LineLaws.told_desk}
 use Rattle.tq_txn.proofs.commits.decide.Goals as goal
+
+pub citations-requires : goal.citations-requires
+citations-requires g c = c.in-Ok-evidence.ensures.value
 
 pub desk-requires-clause-evidence : goal.desk-requires-clause-evidence
 desk-requires-clause-evidence g c =

@@ -2,9 +2,8 @@ use Rattle.std.proofs.Common.{◌∙◌, List, sym, ap}
 use Rattle.tq_asks.specs.declared.ask.CitedVote.{CitedVote}
 use Rattle.tq_asks.specs.declared.ask.Verdict.TheVariants as verdicts
 use Rattle.tq_txn_states.specs.Ended.{commit_verdict, ended_with}
-use Rattle.tq_txn.specs.Commits.{resolved_by}
+use Rattle.tq_txn.{specs.Commits.resolved_by, proofs.EndLaws.commit_told}
 use Rattle.tq_txn.specs.declared.txn.Txn.TheVariants as states
-use Rattle.tq_txn.proofs.EndLaws.{commit_told}
 use Rattle.tq_txn.proofs.commits.decision_of.Goals as goal
 
 pub returns-in-Committed-clause-txn : goal.returns-in-Committed-clause-txn

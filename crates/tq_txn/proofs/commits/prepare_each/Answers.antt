@@ -1,13 +1,11 @@
 use Rattle.std.proofs.Common.{rules, ◌≡◌, ◌+◌, ◌<◌, ◌≤◌, ℕ, List, [], ◌∷◌, Option, Some, Ok, Err, drop, get_or, length, refl, sym, ap, ◌∙◌, subst}
-use Rattle.std.proofs.lemmas.List.{drop_all, drop-map, length-map}
-use Rattle.std.specs.Prelude.{Result}
+use Rattle.std.{proofs.lemmas.List.{drop_all, drop-map, length-map}, specs.Prelude.Result}
 use Rattle.tq_coterie.specs.Coterie.{numbers_of}
 use Rattle.tq_shape.specs.Tree.{Server}
 use Rattle.tq_txn.specs.{Dialogue.{Follows, LineEnd, ended_by}, Commits.prepares_line}
-use Rattle.tq_txn.specs.declared.fault.LineFault.{LineFault}
+use Rattle.tq_txn.{specs.declared.fault.LineFault.LineFault, proofs.CommitLaws.{prepares_on, prepares_off}}
+use Rattle.tq_txn.proofs.{EndLaws.{voted_on_same, voted_on_on}, LineLaws.{follows_end, left_from}}
 use Rattle.tq_txn_states.specs.{Open.OpenView, Voting.VotingView}
-use Rattle.tq_txn.proofs.{CommitLaws.{prepares_on, prepares_off}, EndLaws.{voted_on_same, voted_on_on}}
-use Rattle.tq_txn.proofs.LineLaws.{follows_end, left_from}
 use Rattle.tq_txn.proofs.commits.prepare_each.Goals as goal
 
 abbrev number : Server → ℕ

@@ -1,6 +1,5 @@
 use Rattle.tq_coterie.specs.Coterie.{numbers_of}
-use Rattle.tq_txn.specs.Lines.{ending_line}
-use Rattle.tq_txn.proofs.LineLaws.{follows_memory}
+use Rattle.tq_txn.{specs.Lines.ending_line, proofs.LineLaws.follows_memory}
 use Rattle.tq_txn.proofs.endings.end_at_each.Goals as goal
 
 pub returns-in-Err-clause-asks : goal.returns-in-Err-clause-asks

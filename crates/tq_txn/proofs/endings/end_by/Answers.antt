@@ -1,6 +1,5 @@
 use Rattle.std.proofs.Common.{rules, ◌≡◌, ◌==◌, ◌+◌, ℕ, List, Option, Some, Ok, Err, true, drop, sym, ◌∙◌, subst}
-use Rattle.std.proofs.lemmas.{Bool.and_parts, List.drop_all}
-use Rattle.std.specs.{List.list_all, Prelude.Result}
+use Rattle.std.{proofs.lemmas.{Bool.and_parts, List.drop_all}, specs.{List.list_all, Prelude.Result}}
 use Rattle.tq_coterie.specs.Coterie.{numbers_of}
 use Rattle.tq_shape.specs.Tree.{Server}
 use Rattle.tq_txn.specs.{Dialogue.{Follows, LineEnd, ended_by}, Lines.{end_line, ending_line}}
@@ -22,6 +21,7 @@ loop-server-preserved g c =
     record {
       tree = c.end_at.ensures.tree ∙ held.tree;
       told = end_grown told new (grown_along (end_line c.args.ended.now c.server-item.result.number) told new (Some (record { answer = Ok tt; after = tt })) c.in_ok-end_at.ensures.asks) c.args.ended.now held.told;
+      release = c.end_at.ensures.release;
       of_tree = subst R (sym c.end_at.ensures.tree) parts.1;
       asks = λ after end more. held.asks after end (ending_on c.args.ended.now all rest c.server-item.result is told new after end c.in_ok-end_at.ensures.asks more);
     }

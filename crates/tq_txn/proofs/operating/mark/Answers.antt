@@ -1,5 +1,4 @@
-use Rattle.std.proofs.Common.{ap}
-use Rattle.std.specs.Result.{result_ok}
+use Rattle.std.{proofs.Common.ap, specs.Result.result_ok}
 use Rattle.tq_txn.proofs.Following.{follows_mark}
 use Rattle.tq_txn.proofs.operating.mark.Goals as goal
 

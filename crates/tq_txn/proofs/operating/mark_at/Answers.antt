@@ -1,6 +1,5 @@
 use Rattle.std.proofs.Common.{Option, subst, sym}
-use Rattle.tq_txn.specs.{Dialogue.Follows, Script.{mark_line, server_marked}}
-use Rattle.tq_txn.proofs.Following.{follows_passed}
+use Rattle.tq_txn.{specs.{Dialogue.Follows, Script.{mark_line, server_marked}}, proofs.Following.follows_passed}
 use Rattle.tq_txn.proofs.operating.mark_at.Goals as goal
 
 pub returns-clause-asks : goal.returns-clause-asks

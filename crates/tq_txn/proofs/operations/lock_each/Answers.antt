@@ -1,6 +1,5 @@
 use Rattle.std.proofs.{Common.{◌≡◌, ◌==◌, ◌+◌, ◌∙◌, ℕ, List, Ok, Err, true, drop, sym, ap, subst}, lemmas.List.drop_all}
-use Rattle.std.proofs.lemmas.Bool.{and_parts}
-use Rattle.std.specs.List.{list_all}
+use Rattle.std.{proofs.lemmas.Bool.and_parts, specs.List.list_all}
 use Rattle.tq_coterie.specs.Coterie.{numbers_of}
 use Rattle.tq_shape.specs.Tree.{Server}
 use Rattle.tq_txn.specs.Lines.{IsLocking, lock_ask, locks_line}

@@ -1,5 +1,4 @@
-use Rattle.std.proofs.Common.{◌≡◌, ◌==◌, List, true, drop}
-use Rattle.std.specs.{List.list_all, Prelude.Result}
+use Rattle.std.{proofs.Common.{◌≡◌, ◌==◌, List, true, drop}, specs.{List.list_all, Prelude.Result}}
 use Rattle.tq_coterie.specs.Coterie.{numbers_of}
 use Rattle.tq_evidence.specs.declared.grant.Grant.{Grant}
 use Rattle.tq_txn_states.specs.Open.{OpenView}

@@ -2,9 +2,8 @@ use Rattle.std.proofs.Common.{◌≡◌, ◌∙◌, ◌++◌, ℕ, [], ◌∷◌
 use Rattle.std.specs.List.{Contains}
 use Rattle.tq_asks.specs.declared.ask.NodeAsk.{NodeAsk}
 use Rattle.tq_txn_states.specs.{Voting.grant_told, Open.{OpenView, touched_by}, declared.told.NodeTold.NodeTold}
-use Rattle.tq_txn.specs.declared.fault.{LineFault.LineFault, LineFault.TheVariants.Memory}
-use Rattle.tq_txn.specs.{Lines.{IsLocking, lock_ask, lock_line, next_lock, without_ask}, Told.answers_in}
-use Rattle.tq_txn.specs.Dialogue.{Follows, ended_by}
+use Rattle.tq_txn.specs.{declared.fault.LineFault.{LineFault, TheVariants.Memory}, Told.answers_in}
+use Rattle.tq_txn.specs.{Lines.{IsLocking, lock_ask, lock_line, next_lock, without_ask}, Dialogue.{Follows, ended_by}}
 use Rattle.tq_txn.proofs.LockingLaws.{locked_next, unasked_next, unlocked_next, unnoted_next}
 use Rattle.tq_txn.proofs.operations.lock_next.Goals as goal
 

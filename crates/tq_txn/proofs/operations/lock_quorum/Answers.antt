@@ -1,13 +1,10 @@
-use Rattle.std.proofs.lemmas.List.Elements.{All-nil}
+use Rattle.std.{proofs.lemmas.List.Elements.All-nil, specs.{Global.Vec, List.{Contains, list_all}}}
 use Rattle.std.proofs.Common.{◌≡◌, ◌==◌, ◌∙◌, ◌++◌, ℕ, [], true, refl, sym, ap, subst, Some, Result, Ok, Err, rules}
-use Rattle.std.specs.{Global.Vec, List.{Contains, list_all}}
 use Rattle.tq_coterie.specs.Coterie.{numbers_of}
 use Rattle.tq_evidence.specs.{declared.grant.Grant.Grant, Evidence.granters}
-use Rattle.tq_txn_states.specs.Voting.{answers_of}
-use Rattle.tq_txn_states.proofs.GoodGrants.{of_tree}
-use Rattle.tq_txn.specs.declared.fault.{LineFault.LineFault, LineFault.TheVariants.Memory}
-use Rattle.tq_txn.specs.{Dialogue.{Follows, ended_by}, Told.{AreTold, answers_in}}
-use Rattle.tq_txn.specs.Lines.{AreOf, LocksView, grants_answer, locks_of, quorum_line}
+use Rattle.tq_txn_states.{specs.Voting.answers_of, proofs.GoodGrants.of_tree}
+use Rattle.tq_txn.specs.{declared.fault.LineFault.{LineFault, TheVariants.Memory}, Dialogue.{Follows, ended_by}}
+use Rattle.tq_txn.specs.{Told.{AreTold, answers_in}, Lines.{AreOf, LocksView, grants_answer, locks_of, quorum_line}}
 use Rattle.tq_txn.proofs.LockingLaws.{member_of, touched_same}
 use Rattle.tq_txn.proofs.LineLaws.{follows_memory, quorum_off, quorum_stopped, quorum_locked}
 use Rattle.tq_txn.proofs.operations.lock_quorum.Goals as goal

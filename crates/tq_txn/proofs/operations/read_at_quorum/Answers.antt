@@ -1,13 +1,13 @@
 use Rattle.tq_txn.specs.{Told.{AreTold, answers_in}, declared.fault.LineFault.TheVariants.Memory, Dialogue.ended_by}
 use Rattle.tq_txn.specs.{declared.txn.ReadAnswer.TheVariants.Copy, Lines.{quorum_line, read_end}}
-use Rattle.tq_txn_states.specs.{Voting.{KeepsOnly, answers_of}, Open.{read_copy, read_op, txn_after_op}}
-use Rattle.std.proofs.{lemmas.List.Elements.All-contains_itself, Common.{sym, subst, ap, ◌∙◌, Some, Ok, Err, refl}}
 use Rattle.tq_txn.proofs.KnownLaws.{knows_touched, knows_taken, grown_along}
 use Rattle.tq_txn.proofs.LockingLaws.{same_answers, still_few, still_member, still_unused}
 use Rattle.tq_txn.proofs.LineLaws.{follows_off, follows_on, read_ended, read_refused}
+use Rattle.tq_txn_states.specs.{Voting.{KeepsOnly, answers_of}, Open.{read_copy, read_op, txn_after_op}}
+use Rattle.tq_txn_states.proofs.{CitedLaws.granted_cited, GoodGrants.{any_fit, grants_again, read_as_told}}
+use Rattle.std.proofs.{lemmas.List.Elements.All-contains_itself, Common.{sym, subst, ap, ◌∙◌, Some, Ok, Err, refl}}
 use Rattle.tq_evidence.specs.declared.op.OpKind.TheVariants as kinds
 use Rattle.tq_locks.specs.declared.mode.Mode.TheVariants.{Shared}
-use Rattle.tq_txn_states.proofs.{CitedLaws.granted_cited, GoodGrants.{any_fit, grants_again, read_as_told}}
 use Rattle.tq_txn_states.specs.declared.fault.TxnFault.TheVariants as txn_faults
 use Rattle.tq_txn.proofs.operations.read_at_quorum.Goals as goal
 

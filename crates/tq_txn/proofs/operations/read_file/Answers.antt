@@ -1,7 +1,5 @@
-use Rattle.std.proofs.Common.{sym, ap, ◌∙◌, rules}
-use Rattle.std.specs.Option.{option_copied}
-use Rattle.tq_txn.specs.Dialogue.{ended_by}
-use Rattle.tq_txn.proofs.{LockingLaws.unused, LineLaws.first_of_reads}
+use Rattle.std.{proofs.Common.{sym, ap, ◌∙◌, rules}, specs.Option.option_copied}
+use Rattle.tq_txn.{specs.Dialogue.ended_by, proofs.{LockingLaws.unused, LineLaws.first_of_reads}}
 use Rattle.tq_txn.proofs.operations.read_file.Goals as goal
 
 pub returns-in-Some-clause-asks : goal.returns-in-Some-clause-asks

@@ -1,7 +1,5 @@
-use Rattle.std.proofs.Common.{sym, ap, ◌∙◌}
-use Rattle.std.specs.Option.{option_copied}
-use Rattle.tq_txn.specs.{Dialogue.ended_by, Told.answers_in}
-use Rattle.tq_txn.proofs.{LockingLaws.unwritten, LineLaws.first_of_writes}
+use Rattle.std.{proofs.Common.{sym, ap, ◌∙◌}, specs.Option.option_copied}
+use Rattle.tq_txn.{specs.{Dialogue.ended_by, Told.answers_in}, proofs.{LockingLaws.unwritten, LineLaws.first_of_writes}}
 use Rattle.tq_txn.proofs.operations.write_file.Goals as goal
 
 pub returns-in-Some-clause-knows : goal.returns-in-Some-clause-knows

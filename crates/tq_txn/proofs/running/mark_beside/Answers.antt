@@ -1,6 +1,5 @@
 use Rattle.std.proofs.Common.{rules}
-use Rattle.tq_txn.specs.{Dialogue.Ends, Script.mark_asked}
-use Rattle.tq_txn.proofs.{Following.follows_cut, KnownLaws.open_beside}
+use Rattle.tq_txn.{specs.{Dialogue.Ends, Script.mark_asked}, proofs.{Following.follows_cut, KnownLaws.open_beside}}
 use Rattle.tq_txn.proofs.running.mark_beside.Goals as goal
 
 pub returns-in_err-mark-clause-asks : goal.returns-in_err-mark-clause-asks

@@ -1,5 +1,4 @@
-use Rattle.std.proofs.Common.{◌≡◌, List, Option, None, drop}
-use Rattle.std.specs.Option.{IfSome}
+use Rattle.std.{proofs.Common.{◌≡◌, List, Option, None, drop}, specs.Option.IfSome}
 use Rattle.tq_txn.specs.{declared.asker.Exchange.Exchange, Dialogue.Follows, Script.script_asked, Told.IsOpenIn}
 use Rattle.tq_txn.proofs.running.run_script.Given as goal
 

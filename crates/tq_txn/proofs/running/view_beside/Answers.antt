@@ -1,5 +1,4 @@
-use Rattle.tq_txn.specs.Script.{view_asked}
-use Rattle.tq_txn.proofs.KnownLaws.{open_beside}
+use Rattle.tq_txn.{specs.Script.view_asked, proofs.KnownLaws.open_beside}
 use Rattle.tq_txn.proofs.running.view_beside.Goals as goal
 
 pub returns-clause-txn : goal.returns-clause-txn

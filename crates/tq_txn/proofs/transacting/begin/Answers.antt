@@ -1,7 +1,5 @@
-use Rattle.std.proofs.lemmas.Result.{err_from_is_err_and}
-use Rattle.std.specs.Result.{result_ok}
-use Rattle.tq_txn.specs.Script.{closing, desk_begun}
-use Rattle.tq_txn.proofs.{Following.follows_cut, LineLaws.follows_then}
+use Rattle.std.{proofs.lemmas.Result.err_from_is_err_and, specs.Result.result_ok}
+use Rattle.tq_txn.{specs.Script.{closing, desk_begun}, proofs.{Following.follows_cut, LineLaws.follows_then}}
 use Rattle.tq_txn.proofs.transacting.begin.Goals as goal
 
 pub returns-in_err-_none-clause-asks : goal.returns-in_err-_none-clause-asks

@@ -2,9 +2,9 @@ use Rattle.std.proofs.{Common.{◌≡◌, ℕ, List, Option, Some, None, subst},
 use Rattle.std.specs.{Option.IfSome, Result.result_ok}
 use Rattle.tq_txn.specs.{Commits.commit_line, Told.{IsOpenIn, Knows, answers_in}, declared.asker.Exchange.Exchange}
 use Rattle.tq_txn.specs.Script.{after_commit}
+use Rattle.tq_txn.proofs.{LineLaws.follows_end, Following.{follows_closed, follows_went, follows_went_out}}
 use Rattle.tq_txn_states.specs.Open.{OpenView}
 use Rattle.tq_txn.specs.declared.txn.Txn.TheVariants as states
-use Rattle.tq_txn.proofs.{LineLaws.follows_end, Following.{follows_closed, follows_went, follows_went_out}}
 use Rattle.tq_txn.proofs.transacting.commit_open.Goals as goal
 
 -- what is open knows what it keeps

@@ -1,7 +1,5 @@
-use Rattle.std.proofs.lemmas.Result.{err_from_is_err_and}
-use Rattle.std.specs.Result.{result_ok}
-use Rattle.tq_txn.specs.{Lines.read_line, Script.after}
-use Rattle.tq_txn.proofs.Following.{follows_went, follows_went_out}
+use Rattle.std.{proofs.lemmas.Result.err_from_is_err_and, specs.Result.result_ok}
+use Rattle.tq_txn.{specs.{Lines.read_line, Script.after}, proofs.Following.{follows_went, follows_went_out}}
 use Rattle.tq_txn.proofs.transacting.read.Goals as goal
 
 pub returns-in_err-answered-clause-asks : goal.returns-in_err-answered-clause-asks

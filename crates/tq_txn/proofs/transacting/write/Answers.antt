@@ -1,5 +1,4 @@
-use Rattle.std.proofs.{lemmas.Result.err_from_is_err_and, Common.{ℕ, List, subst}}
-use Rattle.std.specs.Result.{result_ok}
+use Rattle.std.{proofs.{lemmas.Result.err_from_is_err_and, Common.{ℕ, List, subst}}, specs.Result.result_ok}
 use Rattle.tq_txn.specs.{Dialogue.{Follows, ended_by}, Lines.write_line, Script.after}
 use Rattle.tq_txn.proofs.Following.{follows_went, follows_went_out}
 use Rattle.tq_txn.proofs.transacting.write.Goals as goal

@@ -1,9 +1,7 @@
-use Rattle.std.proofs.Common.{◌∙◌, ap}
-use Rattle.std.specs.{List.insert, Ordering.is_lt}
+use Rattle.std.{proofs.Common.{◌∙◌, ap}, specs.{List.insert, Ordering.is_lt}}
 use Rattle.tq_store.specs.Copies.{name_cmp}
 use Rattle.tq_evidence.specs.declared.op.Op.{Op}
-use Rattle.tq_txn_states.specs.Open.{place_before}
-use Rattle.tq_txn_states.proofs.Puts.{insert_before}
+use Rattle.tq_txn_states.{specs.Open.place_before, proofs.Puts.insert_before}
 use Rattle.tq_txn_states.proofs.open.put_in_order.Goals as goal
 
 pub returns : goal.returns

@@ -1,5 +1,4 @@
-use Rattle.std.proofs.Common.{◌∙◌, sym, ap}
-use Rattle.std.specs.Option.{option_copied}
+use Rattle.std.{proofs.Common.{◌∙◌, sym, ap}, specs.Option.option_copied}
 use Rattle.tq_shape.specs.Tree.{Server}
 use Rattle.tq_txn_states.proofs.Searched.{below_last}
 use Rattle.tq_txn_states.proofs.servers.is_above.Goals as goal

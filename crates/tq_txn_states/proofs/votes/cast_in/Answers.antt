@@ -1,6 +1,5 @@
 use Rattle.std.proofs.Common.{◌∙◌, sym, ap}
-use Rattle.tq_txn_states.specs.Voting.{voted_by}
-use Rattle.tq_txn_states.proofs.GoodVotes.{cast_none, cast_some}
+use Rattle.tq_txn_states.{specs.Voting.voted_by, proofs.GoodVotes.{cast_none, cast_some}}
 use Rattle.tq_txn_states.proofs.votes.cast_in.Goals as goal
 
 pub returns-then-not-is_prepare_of-clause-value : goal.returns-then-not-is_prepare_of-clause-value

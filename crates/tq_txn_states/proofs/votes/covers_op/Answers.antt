@@ -1,9 +1,7 @@
-use Rattle.std.proofs.Common.{◌≡◌, ◌∙◌, true, Some, List, slice_get, refl, sym, ap, subst}
+use Rattle.std.{proofs.Common.{◌≡◌, ◌∙◌, true, Some, List, slice_get, refl, sym, ap, subst}, specs.List.list_all}
 use Rattle.std.proofs.lemmas.Option.{slice_get_read}
-use Rattle.std.specs.List.{list_all}
 use Rattle.tq_evidence.specs.{declared.grant.Grant.Grant, Evidence.{granters, rises}}
-use Rattle.tq_txn_states.specs.Voting.{covers_grant}
-use Rattle.tq_txn_states.proofs.Searched.{granter_is, none_to_cover, one_covers}
+use Rattle.tq_txn_states.{specs.Voting.covers_grant, proofs.Searched.{granter_is, none_to_cover, one_covers}}
 use Rattle.tq_txn_states.proofs.votes.covers_op.Goals as goal
 
 pub returns-then-not-is_granter_at : goal.returns-then-not-is_granter_at

@@ -1,5 +1,4 @@
-use Rattle.std.proofs.Common.{◌==◌, ◌∙◌, ap}
-use Rattle.std.specs.List.{list_any}
+use Rattle.std.{proofs.Common.{◌==◌, ◌∙◌, ap}, specs.List.list_any}
 use Rattle.tq_evidence.specs.declared.grant.Grant.{Grant}
 use Rattle.tq_txn_states.proofs.votes.has_server_at.Goals as goal
 

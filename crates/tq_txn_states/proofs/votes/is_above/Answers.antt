@@ -1,5 +1,4 @@
-use Rattle.std.proofs.Common.{◌∙◌, sym, ap}
-use Rattle.std.specs.Option.{option_copied}
+use Rattle.std.{proofs.Common.{◌∙◌, sym, ap}, specs.Option.option_copied}
 use Rattle.tq_evidence.specs.declared.vote.Vote.{Vote}
 use Rattle.tq_txn_states.proofs.{Searched.below_last, GoodVotes.votes_rise-map}
 use Rattle.tq_txn_states.proofs.votes.is_above.Goals as goal

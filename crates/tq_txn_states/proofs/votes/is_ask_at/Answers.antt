@@ -1,7 +1,6 @@
 use Rattle.std.proofs.Common.{◌∙◌, sym, rules}
 use Rattle.tq_evidence.specs.Evidence.{are_writes_at}
-use Rattle.tq_txn_states.specs.Voting.{writes_in}
-use Rattle.tq_txn_states.proofs.GoodEvidence.{writes_at-are}
+use Rattle.tq_txn_states.{specs.Voting.writes_in, proofs.GoodEvidence.writes_at-are}
 use Rattle.tq_txn_states.proofs.votes.is_ask_at.Goals as goal
 
 pub returns : goal.returns

@@ -1,6 +1,5 @@
 use Rattle.std.proofs.{Common.{false, Option, refl, sym, ap}, lemmas.Bool.{ltb-true, ltb-false}}
-use Rattle.std.proofs.lemmas.Option.{slice_get_read, slice_get_past}
-use Rattle.std.specs.Option.{option_map_or}
+use Rattle.std.{proofs.lemmas.Option.{slice_get_read, slice_get_past}, specs.Option.option_map_or}
 use Rattle.tq_evidence.specs.declared.vote.Vote.{Vote}
 use Rattle.tq_txn_states.specs.Voting.{is_of_server}
 use Rattle.tq_txn_states.proofs.votes.stands_at.Goals as goal

@@ -1,6 +1,5 @@
 use Rattle.hex.specs.Hex.{encode_lower}
-use Rattle.tq_board.specs.Lines.{in_quotes}
-use Rattle.tq_board.proofs.Gathered.{behind-room, spill-then-settle, spill-then-spill}
+use Rattle.tq_board.{specs.Lines.in_quotes, proofs.Gathered.{behind-room, spill-then-settle, spill-then-spill}}
 use Rattle.tq_board.proofs.spilling.Spilling.put_digits_anew.Goals as goal
 
 pub returns-clause-spills : goal.returns-clause-spills

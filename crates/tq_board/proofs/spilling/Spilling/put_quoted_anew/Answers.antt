@@ -1,5 +1,4 @@
-use Rattle.tq_board.specs.Lines.{in_quotes}
-use Rattle.tq_board.proofs.Gathered.{behind-room, spill-then-settle, spill-then-spill}
+use Rattle.tq_board.{specs.Lines.in_quotes, proofs.Gathered.{behind-room, spill-then-settle, spill-then-spill}}
 use Rattle.tq_board.proofs.spilling.Spilling.put_quoted_anew.Goals as goal
 
 pub returns-clause-spills : goal.returns-clause-spills

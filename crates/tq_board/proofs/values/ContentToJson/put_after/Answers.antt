@@ -1,8 +1,7 @@
 use Rattle.std.proofs.Common.{◌++◌, rules, ap, subst, ◌∙◌}
 use Rattle.json.specs.Print.{quoted}
 use Rattle.hex.specs.Hex.{encode_lower}
-use Rattle.tq_board.specs.Lines.{Adds}
-use Rattle.tq_board.proofs.{Gathered.as-quoted, ReadBack.digits-escaped}
+use Rattle.tq_board.{specs.Lines.Adds, proofs.{Gathered.as-quoted, ReadBack.digits-escaped}}
 use Rattle.tq_board.proofs.values.ContentToJson.put_after.Goals as goal
 
 pub returns-clause-adds : goal.returns-clause-adds

@@ -1,7 +1,6 @@
 use Rattle.std.proofs.Common.{◌≡◌, ◌∙◌, List, Option, [], sym, ap, subst}
 use Rattle.clap.specs.{Kinds.HasKind, Words.{App, Row, Text, fault_of, is_simple, is_simple_and_free, subcommand_of}}
-use Rattle.tq_cli.specs.Command.{AsksFor, CanAsk, texts_of, tq_app}
-use Rattle.tq_cli.proofs.CommandLaws.{can_ask, refused_by}
+use Rattle.tq_cli.{specs.Command.{AsksFor, CanAsk, texts_of, tq_app}, proofs.CommandLaws.{can_ask, refused_by}}
 use Rattle.tq_cli.proofs.command.Words.read.Goals as goal
 
 pub of-requires : goal.of-requires

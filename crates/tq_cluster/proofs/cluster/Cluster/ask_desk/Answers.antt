@@ -1,7 +1,6 @@
 use Rattle.std.proofs.{Math.Path.transport, Common.{◌++◌, ◌∙◌, ◌∷◌, [], Ok, ap, sym, subst}}
 use Rattle.tq_txn.specs.declared.asker.Exchange.TheVariants as exchanges
-use Rattle.tq_cluster.specs.Told.{AreOfParts, CallerView, IsToldByDesk}
-use Rattle.tq_cluster.proofs.Callers.{desk_told}
+use Rattle.tq_cluster.{specs.Told.{AreOfParts, CallerView, IsToldByDesk}, proofs.Callers.desk_told}
 use Rattle.tq_cluster.proofs.cluster.Cluster.ask_desk.Goals as goal
 
 pub returns-clause-exchanges : goal.returns-clause-exchanges

@@ -1,5 +1,4 @@
-use Rattle.std.proofs.Common.{subst}
-use Rattle.std.specs.Option.{MatchOption}
+use Rattle.std.{proofs.Common.subst, specs.Option.MatchOption}
 use Rattle.tq_tables.specs.{Journals.JournalsView, Parts.AreLegal}
 use Rattle.tq_mirror.specs.Prefixes.{AllBegin, IsFirstAstray}
 use Rattle.tq_cluster.proofs.Closing.{over_prefixes}

@@ -1,8 +1,7 @@
 use Rattle.std.proofs.Common.{◌-◌, ◌^◌, ◌∙◌, set, ap}
 use Rattle.tq_shape.specs.declared.part.Part.TheVariants as parts
-use Rattle.tq_cluster.specs.Told.{CallerView}
+use Rattle.tq_cluster.{specs.Told.CallerView, proofs.live_board.LiveBoard.pull_part.Given.Over}
 use Rattle.tq_cluster.proofs.Seen.{PartPull, desk_saw, has_pass, part_pull, seeing, server_saw, view_saw}
-use Rattle.tq_cluster.proofs.live_board.LiveBoard.pull_part.Given.{Over}
 use Rattle.tq_cluster.proofs.live_board.LiveBoard.pull_part.Goals as goal
 
 -- a server was pulled

@@ -3,8 +3,7 @@ use Rattle.tq_shape.specs.{Journal.entry, declared.part.Part.TheVariants.Desk}
 use Rattle.tq_desk.specs.DeskJournal.{DeskEntry}
 use Rattle.tq_tables.specs.Journals.{JournalsView}
 use Rattle.tq_core.specs.declared.answer.Step.TheVariants as steps
-use Rattle.tq_core.specs.Steps.{refuse_entry}
-use Rattle.tq_core.proofs.Standing.{desk-levels, desk_asked, not-refused}
+use Rattle.tq_core.{specs.Steps.refuse_entry, proofs.Standing.{desk-levels, desk_asked, not-refused}}
 use Rattle.tq_core.proofs.service.Service.ask_desk.Goals as goal
 
 pub ask_desk-requires-clause-judged : goal.ask_desk-requires-clause-judged

@@ -1,11 +1,9 @@
-use Rattle.std.proofs.Common.{None, ◌∙◌, ◌+◌, ◌++◌, [], ◌∷◌, List, ap, length, refl}
-use Rattle.std.specs.Prelude.{Ok}
+use Rattle.std.{proofs.Common.{None, ◌∙◌, ◌+◌, ◌++◌, [], ◌∷◌, List, ap, length, refl}, specs.Prelude.Ok}
 use Rattle.tq_shape.specs.{Journal.entry, declared.part.Part.TheVariants.View}
 use Rattle.tq_tables.specs.{Journals.{JournalsView, ViewEntry}, Reserved.unready}
 use Rattle.tq_core.specs.declared.answer.Reply.TheVariants as replies
 use Rattle.tq_core.specs.declared.answer.Step.TheVariants as steps
-use Rattle.tq_core.specs.Steps.{refuse_entry}
-use Rattle.tq_core.proofs.Standing.{not-refused, told_offers, view_asked}
+use Rattle.tq_core.{specs.Steps.refuse_entry, proofs.Standing.{not-refused, told_offers, view_asked}}
 use Rattle.tq_core.proofs.service.Service.ask_view.Goals as goal
 
 pub invariant_of-self : goal.invariant_of-self

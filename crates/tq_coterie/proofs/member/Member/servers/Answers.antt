@@ -1,7 +1,5 @@
-use Rattle.std.proofs.Common.{◌-◌, arith}
-use Rattle.std.specs.Arc.{arc_value}
-use Rattle.tq_coterie.specs.Coterie.{numbers_of}
-use Rattle.tq_coterie.proofs.Parts.{Ascends-member}
+use Rattle.std.{proofs.Common.{◌-◌, arith}, specs.Arc.arc_value}
+use Rattle.tq_coterie.{specs.Coterie.numbers_of, proofs.Parts.Ascends-member}
 use Rattle.tq_coterie.proofs.member.Member.servers.Goals as goal
 
 pub returns-clause-ascending : goal.returns-clause-ascending

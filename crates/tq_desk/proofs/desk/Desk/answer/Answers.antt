@@ -1,6 +1,5 @@
 use Rattle.std.proofs.Common.{◌∙◌, ap}
-use Rattle.tq_desk.specs.DeskPlans.{desk_changed, change_leads}
-use Rattle.tq_desk.proofs.DecisionLog.{answers}
+use Rattle.tq_desk.{specs.DeskPlans.{desk_changed, change_leads}, proofs.DecisionLog.answers}
 use Rattle.tq_desk.proofs.desk.Desk.answer.Goals as goal
 
 pub returns-clause-after : goal.returns-clause-after

@@ -1,7 +1,6 @@
 use Rattle.std.proofs.Common.{◌≡◌, ◌+◌, ap, sym, nat_lt, ◌∙◌}
 use Rattle.std.specs.FinMap as fin
-use Rattle.tq_desk.specs.DeskStep.{with_files}
-use Rattle.tq_desk.proofs.NewFiles.{len-with_files}
+use Rattle.tq_desk.{specs.DeskStep.with_files, proofs.NewFiles.len-with_files}
 use Rattle.tq_desk.proofs.desk.Desk.writes_too_many_files.Goals as goal
 
 pub returns : goal.returns

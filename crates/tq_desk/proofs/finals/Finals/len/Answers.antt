@@ -1,8 +1,6 @@
-use Rattle.std.proofs.Common.{sym, ◌≤◌, subst, length}
-use Rattle.std.specs.Cmp.{nat_cmp_total}
+use Rattle.std.{proofs.Common.{sym, ◌≤◌, subst, length}, specs.Cmp.nat_cmp_total}
 use Rattle.std.specs.FinMap as fin
-use Rattle.tq_desk.specs.DeskJournal.{FinalsView}
-use Rattle.tq_desk.proofs.NewFiles.{len-most}
+use Rattle.tq_desk.{specs.DeskJournal.FinalsView, proofs.NewFiles.len-most}
 use Rattle.tq_desk.proofs.finals.Finals.len.Goals as goal
 
 pub returns-clause-most : goal.returns-clause-most

@@ -1,6 +1,5 @@
 use Rattle.std.proofs.Common.{◌∙◌, ap, map, List, Bor}
-use Rattle.tq_evidence.specs.{declared.op.Op.Op, Evidence.are_in_order}
-use Rattle.tq_evidence.proofs.HeldTable.{in_order-writes}
+use Rattle.tq_evidence.{specs.{declared.op.Op.Op, Evidence.are_in_order}, proofs.HeldTable.in_order-writes}
 use Rattle.tq_evidence.proofs.evidence.writes.have_writes.Goals as goal
 
 pub are_voted-requires : goal.are_voted-requires

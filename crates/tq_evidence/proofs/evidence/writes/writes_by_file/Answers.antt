@@ -1,6 +1,5 @@
 use Rattle.std.proofs.{Common.{◌≡◌, ◌∙◌, ap, [], Bor, fold, rules}, lemmas.Fn.always_returns_same}
-use Rattle.tq_evidence.specs.{declared.op.Op.Op, Evidence.put_op}
-use Rattle.tq_evidence.proofs.StableSort.{sorted-put}
+use Rattle.tq_evidence.{specs.{declared.op.Op.Op, Evidence.put_op}, proofs.StableSort.sorted-put}
 use Rattle.tq_evidence.proofs.evidence.writes.writes_by_file.Goals as goal
 
 pub returns : goal.returns

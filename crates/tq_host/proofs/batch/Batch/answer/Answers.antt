@@ -1,6 +1,5 @@
 use Rattle.std.proofs.Common.{◌≡◌, ◌≤◌, None, Some, length, arith, rules}
-use Rattle.tq_host.specs.Told.{entered, bad, full}
-use Rattle.tq_host.proofs.ServeLaws.{told-bad, told-full}
+use Rattle.tq_host.{specs.Told.{entered, bad, full}, proofs.ServeLaws.{told-bad, told-full}}
 use Rattle.tq_host.proofs.batch.Batch.answer.Goals as goal
 
 pub returns-in_default-read-clause-told : goal.returns-in_default-read-clause-told

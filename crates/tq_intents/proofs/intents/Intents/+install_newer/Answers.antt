@@ -2,8 +2,7 @@ use Rattle.std.proofs.Common.{◌≡◌, ◌<◌, ◌++◌, ◌∷◌, [], false
 use Rattle.std.proofs.lemmas.{Bool.Decides.nat_tests, List.{append-nil, get_or_default, map-append}}
 use Rattle.tq_store.specs.Copies.{Files, copies_after_install, copy_in, installed_all, is_newer}
 use Rattle.tq_store.specs.declared.write.Write.{Write}
-use Rattle.tq_intents.specs.{Kept.newer_first, Sharing.write_at, declared.record.Record.Record}
-use Rattle.tq_intents.specs.declared.record.Record.TheVariants.{Copy}
+use Rattle.tq_intents.specs.{Kept.newer_first, Sharing.write_at, declared.record.Record.{Record, TheVariants.Copy}}
 use Rattle.tq_intents.proofs.CopiesPush.{newer_first-last, installed_all-push}
 use Rattle.tq_intents.proofs.intents.Intents.+install_newer.Goals as goal
 

@@ -1,5 +1,4 @@
-use Rattle.std.proofs.Common.{◌≡◌, ◌≤◌, ◌+◌, ◌++◌, List, length, map}
-use Rattle.std.specs.Vec.Iter.{into_iter_items}
+use Rattle.std.{proofs.Common.{◌≡◌, ◌≤◌, ◌+◌, ◌++◌, List, length, map}, specs.Vec.Iter.into_iter_items}
 use Rattle.tq_store.specs.{Copies.{CopiesView, installed_all}, declared.write.Write.Write}
 use Rattle.tq_intents.specs.{Kept.{LogView, kept_copies, kept_votes}, declared.record.Record.TheVariants.Copy}
 use Rattle.tq_intents.proofs.intents.Intents.install_copies.Given as goal

@@ -1,6 +1,5 @@
 use Rattle.std.proofs.Common.{ap, subst}
-use Rattle.tq_intents.specs.Kept.{HasOneVoteEach}
-use Rattle.tq_intents.proofs.KeptLocks.{get-kept_locks}
+use Rattle.tq_intents.{specs.Kept.HasOneVoteEach, proofs.KeptLocks.get-kept_locks}
 use Rattle.tq_intents.proofs.intents.Intents.stable.Goals as goal
 
 pub returns-clause-one_each : goal.returns-clause-one_each

@@ -1,6 +1,5 @@
 use Rattle.std.proofs.Common.{subst}
-use Rattle.tq_intents.specs.Kept.{AreInOrder}
-use Rattle.tq_intents.proofs.Votes.{in_order}
+use Rattle.tq_intents.{specs.Kept.AreInOrder, proofs.Votes.in_order}
 use Rattle.tq_intents.proofs.record.OpenVotes.iter.Goals as goal
 
 pub returns-clause-ordered : goal.returns-clause-ordered

@@ -1,6 +1,5 @@
 use Rattle.std.proofs.Common.{◌∙◌, Ok, Err, ap, sym, subst}
-use Rattle.tq_interpreter.specs.Recorded.{RecorderView}
-use Rattle.tq_interpreter.proofs.Recording.{asked_node, noted_node}
+use Rattle.tq_interpreter.{specs.Recorded.RecorderView, proofs.Recording.{asked_node, noted_node}}
 use Rattle.tq_interpreter.proofs.recorder.Recorder.ask.Goals as goal
 
 pub ask_node-requires-clause-founded : goal.ask_node-requires-clause-founded

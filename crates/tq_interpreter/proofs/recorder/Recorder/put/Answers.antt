@@ -1,8 +1,12 @@
-use Rattle.std.proofs.Common.{◌∙◌, ◌++◌, ap, refl}
+use Rattle.std.proofs.Common.{◌≡◌, ◌∙◌, ◌++◌, None, ap, refl, subst, sym}
+use Rattle.tq_core.specs.Founded.{unfounded_in_node_ask}
 use Rattle.tq_txn.specs.declared.asker.Exchange.TheVariants as exchanges
 use Rattle.tq_interpreter.specs.Recorded.{RecorderView, told_exchanges}
 use Rattle.tq_interpreter.proofs.Recording.{asked_node, handed_is, noted_node}
 use Rattle.tq_interpreter.proofs.recorder.Recorder.put.Goals as goal
+
+pub ask_node-answer-requires-clause-founded : goal.ask_node-answer-requires-clause-founded
+ask_node-answer-requires-clause-founded c = subst (λ (v : RecorderView). unfounded_in_node_ask v.journals c.args.ask ≡ None) (sym c.self.view_is) c.requires.founded
 
 pub invariant_of-self : goal.invariant_of-self
 invariant_of-self c =

@@ -1,7 +1,6 @@
 use Rattle.std.proofs.Common.{◌∙◌, List, ap, sym, subst}
 use Rattle.tq_txn.specs.declared.asker.Exchange.{Exchange}
-use Rattle.tq_interpreter.specs.Recorded.{RecorderView, IsReplayed}
-use Rattle.tq_interpreter.proofs.Recording.{asked_view}
+use Rattle.tq_interpreter.{specs.Recorded.{RecorderView, IsReplayed}, proofs.Recording.asked_view}
 use Rattle.tq_interpreter.proofs.recorder.RecorderAsker.view.Goals as goal
 
 pub invariant_of-self : goal.invariant_of-self

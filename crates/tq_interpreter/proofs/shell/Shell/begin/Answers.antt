@@ -1,9 +1,7 @@
-use Rattle.std.proofs.Common.{◌≡◌, ◌∙◌, ◌++◌, Result, Ok, Err, ap, subst, sym}
-use Rattle.std.specs.Prelude.{OnErr}
+use Rattle.std.{proofs.Common.{◌≡◌, ◌∙◌, ◌++◌, Result, Ok, Err, ap, subst, sym}, specs.Prelude.OnErr}
 use Rattle.tq_desk.specs.declared.ask.DeskAsk.TheVariants.{Begin}
 use Rattle.tq_syntax.specs.declared.line.Line.TheVariants as lines
-use Rattle.tq_txn.specs.Dialogue.{line_result, desk_line}
-use Rattle.tq_txn.proofs.LineLaws.{asked_desk}
+use Rattle.tq_txn.{specs.Dialogue.{line_result, desk_line}, proofs.LineLaws.asked_desk}
 use Rattle.tq_interpreter.specs.{Answer.{World, IsWhole, answer_of_run, begin_end, begin_asked}, Recorded.run_line}
 use Rattle.tq_interpreter.specs.Known.{AreKept, Known}
 use Rattle.tq_interpreter.proofs.ShellLines.{answered_by, are_kept_on, begun_kept, begun_whole, later_by}

@@ -1,7 +1,6 @@
 use Rattle.std.proofs.Common.{◌∙◌, ◌++◌, ap}
-use Rattle.tq_interpreter.specs.{Answer.{World, answer}, Known.Known}
+use Rattle.tq_interpreter.{specs.{Answer.{World, answer}, Known.Known}, proofs.ShellLines.{refresh_answered, shell_on}}
 use Rattle.tq_syntax.specs.declared.line.Line.TheVariants.{Refresh}
-use Rattle.tq_interpreter.proofs.ShellLines.{refresh_answered, shell_on}
 use Rattle.tq_interpreter.proofs.shell.Shell.refresh.Goals as goal
 
 pub invariant_of-self : goal.invariant_of-self

@@ -1,11 +1,9 @@
 use Rattle.std.proofs.Common.{◌∙◌, ◌++◌, ap}
 use Rattle.tq_live.specs.declared.view.ViewAsk.{ViewAsk}
 use Rattle.tq_live.specs.declared.view.ViewAsk.TheVariants as asks
-use Rattle.tq_txn.specs.Dialogue.{line_result, view_line}
-use Rattle.tq_txn.proofs.LineLaws.{asked_view}
+use Rattle.tq_txn.{specs.Dialogue.{line_result, view_line}, proofs.LineLaws.asked_view}
 use Rattle.tq_interpreter.specs.{Answer.{World, answer_of_run, view_end, ok_text, cost_asked}, Recorded.run_line}
-use Rattle.tq_interpreter.specs.Known.{Known}
-use Rattle.tq_interpreter.proofs.ShellLines.{answered_by, later_by, shell_on}
+use Rattle.tq_interpreter.{specs.Known.Known, proofs.ShellLines.{answered_by, later_by, shell_on}}
 use Rattle.tq_interpreter.proofs.shell.Shell.set_cost.Goals as goal
 
 pub invariant_of-self : goal.invariant_of-self

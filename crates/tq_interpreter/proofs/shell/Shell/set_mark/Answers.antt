@@ -2,8 +2,8 @@ use Rattle.std.proofs.Common.{◌∙◌, ◌++◌, [], ap}
 use Rattle.tq_txn.specs.{Dialogue.line_result, Script.mark_line}
 use Rattle.tq_interpreter.specs.{Answer.{World, answer_of_run, view_end, marked_text, mark_asked}, TxnAsked.result_text}
 use Rattle.tq_interpreter.specs.{Recorded.run_line, Known.Known}
-use Rattle.tq_text.specs.Print.{printed_line}
 use Rattle.tq_interpreter.proofs.ShellLines.{answered_by, later_asked, shell_on}
+use Rattle.tq_text.specs.Print.{printed_line}
 use Rattle.tq_interpreter.proofs.shell.Shell.set_mark.Goals as goal
 
 pub invariant_of-self : goal.invariant_of-self

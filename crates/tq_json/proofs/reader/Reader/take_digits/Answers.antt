@@ -1,9 +1,7 @@
 use Rattle.std.proofs.{Common.{◌≡◌, ◌∷◌, ◌+◌, ◌-◌, true, take, sym, ap, subst, ◌∙◌, arith}, lemmas.List.length-take-le}
-use Rattle.std.proofs.lemmas.Str.{IsCharBoundary-after_ascii}
-use Rattle.std.specs.Str.{IsCharBoundary}
+use Rattle.std.{proofs.lemmas.Str.IsCharBoundary-after_ascii, specs.Str.IsCharBoundary}
 use Rattle.json.specs.{Token.number, Lex.{between, lex, after_value, punctuate}}
-use Rattle.tq_json.specs.Plain.{IsCounted, begins_at}
-use Rattle.tq_json.proofs.Marks.{goes_where_begins, number_taken, taken}
+use Rattle.tq_json.{specs.Plain.{IsCounted, begins_at}, proofs.Marks.{goes_where_begins, number_taken, taken}}
 use Rattle.tq_json.proofs.reader.Reader.take_digits.Goals as goal
 
 pub range_from-requires : goal.range_from-requires

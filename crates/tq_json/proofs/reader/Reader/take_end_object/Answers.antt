@@ -1,7 +1,6 @@
 use Rattle.std.proofs.Common.{◌≡◌, ◌∷◌, true, sym, ap, ◌∙◌}
 use Rattle.json.specs.Token.{end_object}
-use Rattle.tq_json.specs.Plain.{closes_at}
-use Rattle.tq_json.proofs.Marks.{goes_where_closes, end_object_taken, taken}
+use Rattle.tq_json.{specs.Plain.closes_at, proofs.Marks.{goes_where_closes, end_object_taken, taken}}
 use Rattle.tq_json.proofs.reader.Reader.take_end_object.Goals as goal
 
 pub returns : goal.returns

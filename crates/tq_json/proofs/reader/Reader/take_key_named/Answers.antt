@@ -1,6 +1,5 @@
 use Rattle.std.proofs.Common.{◌≡◌, ◌+◌, true, length, drop, sym, ap, subst, ◌∙◌, arith}
-use Rattle.std.proofs.lemmas.Str.{IsCharBoundary-after_ascii}
-use Rattle.std.specs.Str.{IsCharBoundary, IsUtf8}
+use Rattle.std.{proofs.lemmas.Str.IsCharBoundary-after_ascii, specs.Str.{IsCharBoundary, IsUtf8}}
 use Rattle.json.specs.{Token.key, Lex.{between, lex}}
 use Rattle.tq_json.specs.{Plain.{IsKeyFirst, begins_at}, declared.reader.Place.TheVariants.Fresh}
 use Rattle.tq_json.proofs.{Lexemes.{key_quoted, colon_behind, behind_key}, Marks.{goes_where_begins, key_taken, taken}}

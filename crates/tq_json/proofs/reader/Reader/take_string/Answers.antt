@@ -1,7 +1,6 @@
 use Rattle.std.proofs.Common.{◌≡◌, ◌∷◌, true, sym, ap, ◌∙◌}
 use Rattle.json.specs.Token.{string}
-use Rattle.tq_json.specs.Plain.{IsQuoted, begins_at}
-use Rattle.tq_json.proofs.Marks.{goes_where_begins, string_taken, taken}
+use Rattle.tq_json.{specs.Plain.{IsQuoted, begins_at}, proofs.Marks.{goes_where_begins, string_taken, taken}}
 use Rattle.tq_json.proofs.reader.Reader.take_string.Goals as goal
 
 pub returns : goal.returns

@@ -1,6 +1,5 @@
 use Rattle.std.proofs.Common.{ap, ◌∙◌}
-use Rattle.tq_json_read.specs.{Frame.{node_entry, journal}, Slots.{of_count, kept}}
-use Rattle.tq_json_read.proofs.Held.{counted-listed}
+use Rattle.tq_json_read.{specs.{Frame.{node_entry, journal}, Slots.{of_count, kept}}, proofs.Held.counted-listed}
 use Rattle.tq_json_read.proofs.file.ServerJournalsFromReader.read.Goals as goal
 
 pub returns-clause-ok : goal.returns-clause-ok

@@ -1,6 +1,5 @@
 use Rattle.std.proofs.Common.{◌<◌, length, refl, arith}
-use Rattle.tq_json_read.specs.Slots.{texts}
-use Rattle.tq_json_read.proofs.Places.{found_at, length-texts, wanted_at, still_none}
+use Rattle.tq_json_read.{specs.Slots.texts, proofs.Places.{found_at, length-texts, wanted_at, still_none}}
 use Rattle.tq_json_read.proofs.object.Tuple2OptionSlots.first_place.Goals as goal
 
 pub returns-then-is_wanted : goal.returns-then-is_wanted

@@ -1,8 +1,8 @@
 use Rattle.std.proofs.Common.{◌≡◌, ◌+◌, ℕ, List, [], ◌∷◌, get_or, drop, suc, None, rules, refl, sym, ap, ◌∙◌, arith}
-use Rattle.std.proofs.lemmas.Bool.{and_parts}
-use Rattle.std.specs.Borrow.{Bor}
-use Rattle.tq_json_read.specs.Slots.{Slots, texts, are_plain, members_behind}
+use Rattle.std.{proofs.lemmas.Bool.and_parts, specs.Borrow.Bor}
+use Rattle.tq_json_read.specs.Slots.{Slots, texts, are_plain}
 use Rattle.tq_json_read.proofs.Places.{names_from, none_first, none_still, distinct_later, taken_first, nothing_taken, pair}
+use Rattle.tq_json.specs.Next.{members_behind}
 use Rattle.tq_json_read.proofs.object.Tuple2OptionSlots.take_in_order.Goals as goal
 
 pub take_named-requires : goal.take_named-requires

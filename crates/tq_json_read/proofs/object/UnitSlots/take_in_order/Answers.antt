@@ -1,6 +1,5 @@
 use Rattle.std.proofs.Common.{drop, refl}
-use Rattle.tq_json_read.specs.Slots.{texts}
-use Rattle.tq_json_read.proofs.Places.{nothing_taken}
+use Rattle.tq_json_read.{specs.Slots.texts, proofs.Places.nothing_taken}
 use Rattle.tq_json_read.proofs.object.UnitSlots.take_in_order.Goals as goal
 
 pub returns-clause-ok : goal.returns-clause-ok

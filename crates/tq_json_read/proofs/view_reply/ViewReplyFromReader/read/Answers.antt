@@ -1,7 +1,6 @@
 use Rattle.std.proofs.Common.{codes, ap, ◌∙◌}
 use Rattle.tq_json.specs.Member.{text_at, number_at}
-use Rattle.tq_json_read.specs.Views.{servers_at, view_reply_by}
-use Rattle.tq_json_read.proofs.Places.{reply_read}
+use Rattle.tq_json_read.{specs.Views.{servers_at, view_reply_by}, proofs.Places.reply_read}
 use Rattle.tq_json_read.proofs.view_reply.ViewReplyFromReader.read.Goals as goal
 
 pub returns-clause-ok : goal.returns-clause-ok

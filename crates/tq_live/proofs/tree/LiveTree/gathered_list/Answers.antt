@@ -1,7 +1,6 @@
 use Rattle.std.proofs.{Common.{◌≡◌, ap, sym, ◌∙◌, Some, List, ℕ}, lemmas.Result.IfOk-weaker}
 use Rattle.tq_shape.specs.Tree.{Server}
-use Rattle.tq_coterie.specs.Coterie.{numbers_of, servers_of}
-use Rattle.tq_coterie.proofs.Parts.{numbers_of-servers_of}
+use Rattle.tq_coterie.{specs.Coterie.{numbers_of, servers_of}, proofs.Parts.numbers_of-servers_of}
 use Rattle.tq_live.proofs.tree.LiveTree.gathered_list.Goals as goal
 
 -- a list of the servers of these numbers has them

@@ -1,8 +1,8 @@
 use Rattle.std.proofs.Common.{◌*◌, ◌≤◌, IfSome}
 use Rattle.tq_live.specs.{Subtree.{Over, leaves}, Kept.weight_of, declared.purpose.Purpose.Purpose}
 use Rattle.tq_live.specs.declared.purpose.Purpose.TheVariants.{Read, Write}
-use Rattle.tq_live.specs.declared.least.SearchFor.TheVariants as soughts
 use Rattle.tq_live.proofs.Repair.{column_over-is, blocker_over-is, cache_over-is, over-at_most}
+use Rattle.tq_live.specs.declared.least.SearchFor.TheVariants as soughts
 use Rattle.tq_live.proofs.tree.cache.over.Goals as goal
 
 pub returns-clause-cache : goal.returns-clause-cache

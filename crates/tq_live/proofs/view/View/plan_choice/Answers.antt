@@ -1,6 +1,5 @@
 use Rattle.std.proofs.Common.{◌∙◌, ap, sym}
-use Rattle.tq_live.specs.ViewLaws.{choice_change}
-use Rattle.tq_live.proofs.Journal.{blocked_reply}
+use Rattle.tq_live.{specs.ViewLaws.choice_change, proofs.Journal.blocked_reply}
 use Rattle.tq_live.proofs.view.View.plan_choice.Goals as goal
 
 pub returns-in-Blocked-clause-reply : goal.returns-in-Blocked-clause-reply

@@ -1,7 +1,6 @@
 use Rattle.std.proofs.{Common.{◌≤◌, List, drop, length, subst, arith}, lemmas.List.length-drop}
 use Rattle.slab.specs.Slab.{get}
-use Rattle.tq_locks.specs.{Locks.LockKey, declared.mode.Lock.Lock}
-use Rattle.tq_locks.proofs.Listed.{told_most}
+use Rattle.tq_locks.{specs.{Locks.LockKey, declared.mode.Lock.Lock}, proofs.Listed.told_most}
 use Rattle.tq_locks.proofs.keyed.HeldLocks.most.Goals as goal
 
 pub returns : goal.returns

@@ -1,8 +1,6 @@
-use Rattle.std.proofs.Common.{◌+◌, drop, rules, ap, sym, ◌∙◌}
-use Rattle.std.specs.List.{cons_option}
+use Rattle.std.{proofs.Common.{◌+◌, drop, rules, ap, sym, ◌∙◌}, specs.List.cons_option}
 use Rattle.slab.specs.Slab.{get}
-use Rattle.tq_locks.specs.Keys.{entries_of}
-use Rattle.tq_locks.proofs.Listed.{told-at}
+use Rattle.tq_locks.{specs.Keys.entries_of, proofs.Listed.told-at}
 use Rattle.tq_locks.proofs.keyed.HeldLocksIterator.next.Goals as goal
 
 pub returns-in-Some-clause-steps : goal.returns-in-Some-clause-steps

@@ -1,7 +1,6 @@
 use Rattle.std.proofs.Common.{rules, nat_eq}
 use Rattle.tq_store.specs.Names.{same_name}
-use Rattle.tq_locks.specs.declared.keyed.KeyedLocks.{KeyedLocks}
-use Rattle.tq_locks.proofs.{Applied.Agrees-same, Listed.cloned_lists}
+use Rattle.tq_locks.{specs.declared.keyed.KeyedLocks.KeyedLocks, proofs.{Applied.Agrees-same, Listed.cloned_lists}}
 use Rattle.tq_locks.proofs.keyed.KeyedLocks.copy.Goals as goal
 
 pub returns : goal.returns

@@ -2,10 +2,9 @@ use Rattle.std.proofs.Common.{◌≡◌, ℕ, nat_eq, refl, ap, sym, ◌∙◌}
 use Rattle.std.specs.FinMap as fin
 use Rattle.slab.specs.Slab.{Slab}
 use Rattle.tq_store.specs.Names.{same_name}
-use Rattle.tq_locks.specs.{declared.keyed.KeyedLocks.KeyedLocks, declared.mode.Lock.Lock, Locks.{LockKey, only_stable}}
-use Rattle.tq_locks.specs.{Keys.keys_under, Kept.{locks_in, Agrees}}
-use Rattle.tq_locks.proofs.{Applied.Agrees-same, Changed.{agreed_self, locks_in-agreed, only_stable-remove}}
-use Rattle.tq_locks.proofs.Found.{some_same}
+use Rattle.tq_locks.specs.{declared.{keyed.KeyedLocks.KeyedLocks, mode.Lock.Lock}, Locks.{LockKey, only_stable}}
+use Rattle.tq_locks.{specs.{Keys.keys_under, Kept.{locks_in, Agrees}}, proofs.{Applied.Agrees-same, Found.some_same}}
+use Rattle.tq_locks.proofs.Changed.{agreed_self, locks_in-agreed, only_stable-remove}
 use Rattle.tq_locks.proofs.keyed.KeyedLocks.end_loose.Goals as goal
 
 -- the entry is taken, and the list of its transaction with its last key

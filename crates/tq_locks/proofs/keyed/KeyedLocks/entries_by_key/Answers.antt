@@ -1,6 +1,5 @@
 use Rattle.std.proofs.Common.{◌++◌, ℕ, map, ◌∙◌}
-use Rattle.tq_locks.specs.{declared.mode.Lock.Lock, Locks.LockKey}
-use Rattle.tq_locks.proofs.Steadied.{values-entries}
+use Rattle.tq_locks.{specs.{declared.mode.Lock.Lock, Locks.LockKey}, proofs.Steadied.values-entries}
 use Rattle.tq_locks.proofs.keyed.KeyedLocks.entries_by_key.Goals as goal
 
 pub loop-key-init : goal.loop-key-init

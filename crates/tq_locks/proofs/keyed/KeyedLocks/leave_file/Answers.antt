@@ -1,5 +1,4 @@
-use Rattle.std.proofs.Common.{◌≡◌, List, ℕ, cond, ap, subst, ◌∙◌}
-use Rattle.std.specs.List.{remove}
+use Rattle.std.{proofs.Common.{◌≡◌, List, ℕ, cond, ap, subst, ◌∙◌}, specs.List.remove}
 use Rattle.tq_store.specs.Names.{same_name}
 use Rattle.tq_locks.specs.{declared.mode.Lock.Lock, Locks.LockKey, Keys.keys_under, Kept.RisesTo}
 use Rattle.tq_locks.proofs.Found.{some_same}

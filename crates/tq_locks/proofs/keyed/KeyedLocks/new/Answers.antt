@@ -1,5 +1,4 @@
-use Rattle.tq_locks.specs.declared.keyed.KeyedLocks.{KeyedLocks}
-use Rattle.tq_locks.proofs.Applied.{Agrees-empty}
+use Rattle.tq_locks.{specs.declared.keyed.KeyedLocks.KeyedLocks, proofs.Applied.Agrees-empty}
 use Rattle.tq_locks.proofs.keyed.KeyedLocks.new.Goals as goal
 
 pub returns : goal.returns

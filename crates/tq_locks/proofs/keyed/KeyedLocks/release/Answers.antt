@@ -1,9 +1,8 @@
 use Rattle.std.proofs.Common.{◌≡◌, nat_eq, ◌++◌, [], ◌∷◌, length, refl, ap, sym, subst, ◌∙◌}
-use Rattle.std.specs.FinMap as fin
 use Rattle.std.specs.{List.slice_get, Option.option_to_list}
+use Rattle.std.specs.FinMap as fin
 use Rattle.tq_locks.specs.{declared.keyed.KeyedLocks.KeyedLocks, Locks.locks_after_release, Keys.keys_under}
-use Rattle.tq_locks.specs.Kept.{locks_in, Agrees}
-use Rattle.tq_locks.proofs.Applied.{cond_same, entry_of_key, empty_keys}
+use Rattle.tq_locks.{specs.Kept.{locks_in, Agrees}, proofs.Applied.{cond_same, entry_of_key, empty_keys}}
 use Rattle.tq_locks.proofs.Changed.{agreed_self, locks_in-agreed, released-remove, released-none}
 use Rattle.tq_locks.proofs.Partition.{with_list, own-with_list, at_last, Agrees-out, Agrees-back, Agrees-popped}
 use Rattle.tq_locks.proofs.keyed.KeyedLocks.release.Goals as goal

@@ -1,6 +1,5 @@
 use Rattle.std.proofs.Common.{refl}
-use Rattle.tq_locks.specs.{declared.keyed.KeyedLocks.KeyedLocks, Kept.locks_in}
-use Rattle.tq_locks.proofs.Changed.{Agrees-set}
+use Rattle.tq_locks.{specs.{declared.keyed.KeyedLocks.KeyedLocks, Kept.locks_in}, proofs.Changed.Agrees-set}
 use Rattle.tq_locks.proofs.keyed.KeyedLocks.set_lock.Goals as goal
 
 pub returns : goal.returns

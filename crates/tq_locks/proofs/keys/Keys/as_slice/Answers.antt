@@ -1,8 +1,6 @@
-use Rattle.std.proofs.Common.{◌≡◌, ap, sym, subst, ℕ}
-use Rattle.std.specs.List.Sorted.{IsPermutation}
+use Rattle.std.{proofs.Common.{◌≡◌, ap, sym, subst, ℕ}, specs.List.Sorted.IsPermutation}
 use Rattle.smallvec.specs.SmallVec.{SmallVec}
-use Rattle.tq_locks.specs.Keys.{starts_in}
-use Rattle.tq_locks.proofs.Blocks.{any_order}
+use Rattle.tq_locks.{specs.Keys.starts_in, proofs.Blocks.any_order}
 use Rattle.tq_locks.proofs.keys.Keys.as_slice.Goals as goal
 
 pub returns : goal.returns

@@ -1,7 +1,6 @@
 use Rattle.std.proofs.Common.{length, ap, sym, ◌∙◌, ℕ}
 use Rattle.smallvec.specs.SmallVec.{SmallVec}
-use Rattle.tq_locks.specs.Keys.{starts_in}
-use Rattle.tq_locks.proofs.Blocks.{length-turned}
+use Rattle.tq_locks.{specs.Keys.starts_in, proofs.Blocks.length-turned}
 use Rattle.tq_locks.proofs.keys.Keys.len.Goals as goal
 
 pub returns : goal.returns

@@ -1,8 +1,6 @@
-use Rattle.std.proofs.Common.{◌≡◌, length, ap, sym, subst, ◌∙◌, List, ℕ, arith}
-use Rattle.std.specs.Global.{Vec}
+use Rattle.std.{proofs.Common.{◌≡◌, length, ap, sym, subst, ◌∙◌, List, ℕ, arith}, specs.Global.Vec}
 use Rattle.smallvec.specs.SmallVec.{SmallVec, HasRoomFor}
-use Rattle.tq_locks.specs.Keys.{starts_in, HasRoomBehind}
-use Rattle.tq_locks.proofs.Blocks.{length-turned, room_behind}
+use Rattle.tq_locks.{specs.Keys.{starts_in, HasRoomBehind}, proofs.Blocks.{length-turned, room_behind}}
 use Rattle.tq_locks.proofs.keys.Keys.put.Goals as goal
 
 pub put-requires-clause-room : goal.put-requires-clause-room

@@ -1,8 +1,7 @@
 use Rattle.std.proofs.Common.{sym, subst}
 use Rattle.slab.specs.Slab.{Slab, HasRoomFor}
 use Rattle.tq_shape.specs.Journal.{Has}
-use Rattle.tq_locks.specs.{Locks.LockKey, declared.mode.Lock.Lock}
-use Rattle.tq_locks.proofs.Listed.{inserted_lists, vacant_listed}
+use Rattle.tq_locks.{specs.{Locks.LockKey, declared.mode.Lock.Lock}, proofs.Listed.{inserted_lists, vacant_listed}}
 use Rattle.tq_locks.proofs.lock_slab.LockSlab.insert_reserved.Goals as goal
 
 pub invariant_of-self : goal.invariant_of-self

@@ -1,7 +1,6 @@
 use Rattle.std.proofs.Common.{◌≡◌, Some, sym, subst}
 use Rattle.slab.specs.Slab.{Slab, get}
-use Rattle.tq_locks.specs.{Locks.LockKey, declared.mode.Lock.Lock}
-use Rattle.tq_locks.proofs.Listed.{put_lists}
+use Rattle.tq_locks.{specs.{Locks.LockKey, declared.mode.Lock.Lock}, proofs.Listed.put_lists}
 use Rattle.tq_locks.proofs.lock_slab.LockSlab.set_lock.Goals as goal
 
 pub invariant_of-self : goal.invariant_of-self

@@ -2,9 +2,8 @@ use Rattle.std.proofs.Common.{◌≡◌, None, IfNone, IfSome, ap, sym, subst, �
 use Rattle.std.specs.FinMap as fin
 use Rattle.tq_shape.specs.Journal.{state_at}
 use Rattle.tq_locks.specs.Locks.{IsTold, locks_after_grant, lock_after, outcome, LocksView}
-use Rattle.tq_locks.specs.Kept.{locks_in, lock_found, IsOf}
+use Rattle.tq_locks.{specs.Kept.{locks_in, lock_found, IsOf}, proofs.Changed.{closed, locks_in-agreed}}
 use Rattle.tq_locks.proofs.Applied.{OnErr-any, by_is, is_told, granted_whole, granted_value, asked_whole, asked_value}
-use Rattle.tq_locks.proofs.Changed.{closed, locks_in-agreed}
 use Rattle.tq_locks.proofs.table.LockTable.ask.Goals as goal
 
 pub invariant_of-self-in-None : goal.invariant_of-self-in-None

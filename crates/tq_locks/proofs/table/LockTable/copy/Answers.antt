@@ -1,6 +1,5 @@
 use Rattle.std.proofs.Common.{◌∙◌, ap}
-use Rattle.tq_locks.specs.{Locks.LocksView, Kept.locks_in}
-use Rattle.tq_locks.proofs.Changed.{closed, locks_in-agreed}
+use Rattle.tq_locks.{specs.{Locks.LocksView, Kept.locks_in}, proofs.Changed.{closed, locks_in-agreed}}
 use Rattle.tq_locks.proofs.table.LockTable.copy.Goals as goal
 
 pub invariant_of-result : goal.invariant_of-result

@@ -1,6 +1,6 @@
 use Rattle.std.proofs.{Common.{◌≡◌, ap, rules, subst, ◌∙◌, List}, lemmas.Fn.always_returns_same}
-use Rattle.std.specs.FinMap as fin
 use Rattle.std.specs.List.Sorted.{IsPermutation}
+use Rattle.std.specs.FinMap as fin
 use Rattle.tq_locks.specs.{declared.mode.Lock.Lock, Locks.{LockKey, LocksView}, Kept.locks_in}
 use Rattle.tq_locks.proofs.Steadied.{sorted-agreed}
 use Rattle.tq_locks.proofs.table.LockTable.entries.Goals as goal

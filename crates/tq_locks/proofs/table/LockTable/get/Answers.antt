@@ -1,7 +1,6 @@
 use Rattle.std.proofs.Common.{ap, ◌∙◌}
 use Rattle.std.specs.FinMap as fin
-use Rattle.tq_locks.specs.{Locks.LocksView, Kept.locks_in}
-use Rattle.tq_locks.proofs.Applied.{found_lock}
+use Rattle.tq_locks.{specs.{Locks.LocksView, Kept.locks_in}, proofs.Applied.found_lock}
 use Rattle.tq_locks.proofs.table.LockTable.get.Goals as goal
 
 pub returns-clause-value : goal.returns-clause-value

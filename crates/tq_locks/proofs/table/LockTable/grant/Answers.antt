@@ -2,9 +2,9 @@ use Rattle.std.proofs.Common.{◌≡◌, None, IfSome, IfNone, ap, subst, ◌∙
 use Rattle.std.specs.FinMap as fin
 use Rattle.tq_locks.specs.Locks as spec
 use Rattle.tq_locks.specs.{Locks.LocksView, Kept.{locks_in, lock_found, IsOf}}
-use Rattle.tq_shape.specs.Journal.{state_at}
 use Rattle.tq_locks.proofs.Applied.{granted_whole, granted_value, asked_whole, asked_value, OnErr-any}
 use Rattle.tq_locks.proofs.Changed.{closed, locks_in-agreed}
+use Rattle.tq_shape.specs.Journal.{state_at}
 use Rattle.tq_locks.proofs.table.LockTable.grant.Goals as goal
 
 pub invariant_of-self : goal.invariant_of-self

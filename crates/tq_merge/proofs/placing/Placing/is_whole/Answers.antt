@@ -1,5 +1,4 @@
-use Rattle.std.proofs.{Common.{◌≡◌, List, length, map, ap, subst, sym, ◌∙◌}, lemmas.Bool.false≢true}
-use Rattle.std.proofs.lemmas.List.{length-map}
+use Rattle.std.proofs.{Common.{◌≡◌, List, length, map, ap, subst, sym, ◌∙◌}, lemmas.{Bool.false≢true, List.length-map}}
 use Rattle.tq_shape.specs.declared.part.Part.{Part}
 use Rattle.tq_node.specs.NodeJournal.{NodeEntry}
 use Rattle.tq_merge.specs.{Order.{times, entries_of}, Placing.PlacingView}

@@ -1,7 +1,6 @@
 use Rattle.std.proofs.Common.{[], subst}
 use Rattle.tq_shape.specs.declared.part.Part.TheVariants as parts
-use Rattle.tq_merge.specs.{Order.{IsNext, ArePlaced}, Placing.PlacingView}
-use Rattle.tq_merge.proofs.Placed.{view_last}
+use Rattle.tq_merge.{specs.{Order.{IsNext, ArePlaced}, Placing.PlacingView}, proofs.Placed.view_last}
 use Rattle.tq_merge.proofs.placing.Placing.show_view_placed.Goals as goal
 
 pub returns-clause-view : goal.returns-clause-view

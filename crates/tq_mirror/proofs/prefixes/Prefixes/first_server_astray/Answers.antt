@@ -1,8 +1,7 @@
 use Rattle.std.proofs.Common.{◌+◌, List, subst}
 use Rattle.tq_node.specs.NodeJournal.{NodeEntry}
 use Rattle.tq_tables.specs.Same.{Begins}
-use Rattle.tq_mirror.specs.Prefixes.{server_prefix}
-use Rattle.tq_mirror.proofs.Led.{one_begins}
+use Rattle.tq_mirror.{specs.Prefixes.server_prefix, proofs.Led.one_begins}
 use Rattle.tq_mirror.proofs.prefixes.Prefixes.first_server_astray.Goals as goal
 
 pub loop-place-preserved : goal.loop-place-preserved

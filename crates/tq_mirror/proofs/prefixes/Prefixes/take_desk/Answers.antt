@@ -3,9 +3,8 @@ use Rattle.tq_shape.specs.declared.part.Part.TheVariants as parts
 use Rattle.tq_tables.specs.{Journals.JournalsView, Tabled.journals_in}
 use Rattle.tq_mirror.specs.declared.entries.Entries.TheVariants as entries
 use Rattle.tq_node.specs.NodeJournal.{NodeEntry}
-use Rattle.tq_mirror.specs.Prefixes.{AreAhead}
+use Rattle.tq_mirror.{specs.Prefixes.AreAhead, proofs.prefixes.Prefixes.take_desk.Goals.In_ok-behind}
 use Rattle.tq_mirror.proofs.Standing.{Taken, desk_taken, found_ahead, from_on, not_taken, spare_alike, spare_kept, those_behind}
-use Rattle.tq_mirror.proofs.prefixes.Prefixes.take_desk.Goals.{In_ok-behind}
 use Rattle.tq_mirror.proofs.prefixes.Prefixes.take_desk.Goals as goal
 
 pub follow_desk-requires : goal.follow_desk-requires

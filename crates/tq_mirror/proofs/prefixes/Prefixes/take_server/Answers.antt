@@ -3,9 +3,8 @@ use Rattle.std.specs.Prelude.{IfSome}
 use Rattle.tq_shape.specs.declared.part.Part.TheVariants as parts
 use Rattle.tq_tables.specs.{Tables.TablesView, Tabled.journals_in}
 use Rattle.tq_mirror.specs.declared.entries.Entries.TheVariants as entries
-use Rattle.tq_mirror.specs.Prefixes.{AreAhead}
+use Rattle.tq_mirror.{specs.Prefixes.AreAhead, proofs.prefixes.Prefixes.take_server.Goals.In_ok-behind}
 use Rattle.tq_mirror.proofs.Standing.{Taken, alike, found_ahead, from_on, not_taken, on_error, server_followed, server_fresh, server_stays, spare_alike, spare_kept}
-use Rattle.tq_mirror.proofs.prefixes.Prefixes.take_server.Goals.{In_ok-behind}
 use Rattle.tq_mirror.proofs.prefixes.Prefixes.take_server.Goals as goal
 
 pub ahead_of_server-requires-clause-few : goal.ahead_of_server-requires-clause-few

@@ -1,7 +1,6 @@
 use Rattle.std.proofs.Common.{sym, subst, rules}
 use Rattle.tq_locks.specs.Locks.{Locks}
-use Rattle.tq_node.specs.Node.{IsSound}
-use Rattle.tq_node.proofs.Sound.{sound-crashed}
+use Rattle.tq_node.{specs.Node.IsSound, proofs.Sound.sound-crashed}
 use Rattle.tq_node.proofs.node.Node.crash.Goals as goal
 
 pub invariant_of-self : goal.invariant_of-self

@@ -1,6 +1,5 @@
 use Rattle.std.proofs.Common.{Bool, ap, sym, subst, ◌∙◌}
-use Rattle.tq_node.specs.{Node.{IsKept, NodeView}, NodeChanges.server_at_stop}
-use Rattle.tq_node.proofs.Sound.{kept_is, left_is}
+use Rattle.tq_node.{specs.{Node.{IsKept, NodeView}, NodeChanges.server_at_stop}, proofs.Sound.{kept_is, left_is}}
 use Rattle.tq_node.proofs.node.Node.leave.Goals as goal
 
 pub returns-then-stops-clause-after : goal.returns-then-stops-clause-after

@@ -1,8 +1,7 @@
 use Rattle.std.proofs.Common.{ap, sym, subst, ◌∙◌}
 use Rattle.std.specs.FinMap as fin
 use Rattle.tq_locks.specs.Locks.{Locks}
-use Rattle.tq_node.specs.Node.{IsSound}
-use Rattle.tq_node.proofs.Sound.{sound-granted}
+use Rattle.tq_node.{specs.Node.IsSound, proofs.Sound.sound-granted}
 use Rattle.tq_node.proofs.node.Node.lock.Goals as goal
 
 pub invariant_of-self-2 : goal.invariant_of-self-2

@@ -1,7 +1,6 @@
 use Rattle.std.proofs.Common.{List, ap, sym, ◌∙◌}
 use Rattle.tq_locks.specs.{declared.mode.Lock.Lock, Locks.{LockKey, held_of}}
-use Rattle.tq_node.specs.{Node.NodeView, Telling.all_held}
-use Rattle.tq_node.proofs.LocksWalked.{all_locked}
+use Rattle.tq_node.{specs.{Node.NodeView, Telling.all_held}, proofs.LocksWalked.all_locked}
 use Rattle.tq_node.proofs.node.Node.not_locked.Goals as goal
 
 pub returns-then-all_held : goal.returns-then-all_held

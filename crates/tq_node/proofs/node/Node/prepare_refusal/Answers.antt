@@ -1,7 +1,6 @@
 use Rattle.std.proofs.Common.{◌≡◌, ◌==◌, length, None, false, sym, ◌∙◌, rules}
 use Rattle.tq_locks.specs.Locks.{holds_nothing}
-use Rattle.tq_node.specs.Records.{not_locked}
-use Rattle.tq_node.proofs.LocksWalked.{holds_some}
+use Rattle.tq_node.{specs.Records.not_locked, proofs.LocksWalked.holds_some}
 use Rattle.tq_node.proofs.node.Node.prepare_refusal.Goals as goal
 
 pub returns-then-not-is_empty : goal.returns-then-not-is_empty

@@ -1,6 +1,5 @@
 use Rattle.std.proofs.Common.{subst}
-use Rattle.tq_node.specs.Node.{IsKept, NodeView}
-use Rattle.tq_node.proofs.Sound.{kept_is}
+use Rattle.tq_node.{specs.Node.{IsKept, NodeView}, proofs.Sound.kept_is}
 use Rattle.tq_node.proofs.node.Node.stable.Goals as goal
 
 pub returns-clause-kept : goal.returns-clause-kept

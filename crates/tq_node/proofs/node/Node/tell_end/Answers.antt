@@ -1,9 +1,8 @@
 use Rattle.std.proofs.Common.{[], ap, sym, subst, ◌∙◌, rules}
 use Rattle.tq_asks.specs.declared.ask.{NodeAsk.TheVariants.Work, WorkAsk.TheVariants.Decide}
 use Rattle.tq_node.specs.{Node.{NodeView, with_last}, declared.change.NodeStep.TheVariants.Install, Telling.AreReached}
-use Rattle.tq_node.specs.declared.telling.Raised.TheVariants.{Written}
+use Rattle.tq_node.{specs.declared.telling.Raised.TheVariants.Written, proofs.Installed.{step-keeps, step-reaches}}
 use Rattle.tq_store.specs.Copies.{copy_of}
-use Rattle.tq_node.proofs.Installed.{step-keeps, step-reaches}
 use Rattle.tq_node.proofs.node.Node.tell_end.Goals as goal
 
 pub returns-clause-told : goal.returns-clause-told

@@ -1,7 +1,6 @@
 use Rattle.std.proofs.Common.{sym, subst, rules}
 use Rattle.tq_locks.specs.Locks.{Locks}
-use Rattle.tq_node.specs.Node.{IsSound}
-use Rattle.tq_node.proofs.Sound.{sound-asked}
+use Rattle.tq_node.{specs.Node.IsSound, proofs.Sound.sound-asked}
 use Rattle.tq_node.proofs.node.Node.tell_lock.Goals as goal
 
 pub invariant_of-self-in_default : goal.invariant_of-self-in_default

@@ -1,10 +1,8 @@
-use Rattle.std.proofs.Common.{ap, sym, subst, ◌∙◌, rules}
-use Rattle.std.specs.List.{list_any}
+use Rattle.std.{proofs.Common.{ap, sym, subst, ◌∙◌, rules}, specs.List.list_any}
 use Rattle.tq_node.specs.{NodeChanges.{node_changed, records_after_step, NodeFits}, Telling.{AreReached, raised_files}}
 use Rattle.tq_node.specs.{NodePlans.{change_fits, change_leads}, declared.change.NodeChange.NodeChange}
-use Rattle.tq_node.specs.declared.telling.Raised.{Raised}
+use Rattle.tq_node.{specs.declared.telling.Raised.Raised, proofs.Installed.{step-keeps, step-reaches}}
 use Rattle.tq_store.specs.{Copies.{Files, copy_of}, Names.same_name}
-use Rattle.tq_node.proofs.Installed.{step-keeps, step-reaches}
 use Rattle.tq_node.proofs.node.Node.tell_planned.Goals as goal
 
 pub apply-requires : goal.apply-requires

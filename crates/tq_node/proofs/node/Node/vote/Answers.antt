@@ -2,8 +2,7 @@ use Rattle.std.proofs.Common.{◌<◌, ◌++◌, map, refl, ap, sym, ◌∙◌, 
 use Rattle.std.specs.FinMap as fin
 use Rattle.tq_locks.specs.Locks.{held_of}
 use Rattle.tq_intents.specs.Kept.{vote_records}
-use Rattle.tq_node.specs.Records.{kept_lock}
-use Rattle.tq_node.proofs.Sound.{sound-as, sound-prepared}
+use Rattle.tq_node.{specs.Records.kept_lock, proofs.Sound.{sound-as, sound-prepared}}
 use Rattle.tq_node.proofs.node.Node.vote.Goals as goal
 
 pub invariant_of-self-2 : goal.invariant_of-self-2

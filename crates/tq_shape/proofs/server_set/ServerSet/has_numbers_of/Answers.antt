@@ -1,5 +1,4 @@
-use Rattle.std.proofs.Common.{◌≡◌, ◌∷◌, ◌&&◌, ℕ, List, [], nat_eq, refl, ap, ◌∙◌}
-use Rattle.std.specs.Cmp.Lexicographic.{pointwise}
+use Rattle.std.{proofs.Common.{◌≡◌, ◌∷◌, ◌&&◌, ℕ, List, [], nat_eq, refl, ap, ◌∙◌}, specs.Cmp.Lexicographic.pointwise}
 use Rattle.tq_shape.specs.ServerSet.{have_same_numbers, servers_of_numbers}
 use Rattle.tq_shape.proofs.server_set.ServerSet.has_numbers_of.Goals as goal
 

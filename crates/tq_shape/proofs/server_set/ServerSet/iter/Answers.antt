@@ -1,6 +1,5 @@
 use Rattle.std.proofs.Common.{◌≡◌, ◌∷◌, ap, ◌∙◌, sym}
-use Rattle.tq_shape.specs.ServerSet.{servers_of_numbers}
-use Rattle.tq_shape.proofs.SetWords.{AreLeft-all, left-all, numbers_of-ascend}
+use Rattle.tq_shape.{specs.ServerSet.servers_of_numbers, proofs.SetWords.{AreLeft-all, left-all, numbers_of-ascend}}
 use Rattle.tq_shape.proofs.server_set.ServerSet.iter.Goals as goal
 
 all : (c : goal.After-more) → c.self.inside.words ≡ c.first.result ∷ c.more.result.now

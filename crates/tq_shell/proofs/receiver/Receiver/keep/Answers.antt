@@ -1,6 +1,5 @@
 use Rattle.std.proofs.Common.{arith}
-use Rattle.tq_shell.specs.Stream.{Received}
-use Rattle.tq_shell.proofs.Pieces.{with_piece-room}
+use Rattle.tq_shell.{specs.Stream.Received, proofs.Pieces.with_piece-room}
 use Rattle.tq_shell.proofs.receiver.Receiver.keep.Goals as goal
 
 pub returns : goal.returns

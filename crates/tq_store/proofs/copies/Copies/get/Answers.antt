@@ -1,6 +1,5 @@
 use Rattle.std.proofs.Common.{ap, sym, ◌∙◌}
-use Rattle.tq_store.specs.Copies.{copy_at, copy_of}
-use Rattle.tq_store.proofs.Installed.{get_name}
+use Rattle.tq_store.{specs.Copies.{copy_at, copy_of}, proofs.Installed.get_name}
 use Rattle.tq_store.proofs.copies.Copies.get.Goals as goal
 
 pub returns-in-Some : goal.returns-in-Some

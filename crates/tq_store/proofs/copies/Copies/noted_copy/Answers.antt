@@ -1,7 +1,6 @@
 use Rattle.std.proofs.Common.{◌≡◌, ◌∙◌, ℕ, List, Some, nat_eq, refl, ap, sym, subst}
 use Rattle.std.specs.{Cmp.Lexicographic.pointwise, Map.lookup}
-use Rattle.tq_store.specs.Copies.{CopiesView, copy_at, copy_of}
-use Rattle.tq_store.proofs.Installed.{get_name}
+use Rattle.tq_store.{specs.Copies.{CopiesView, copy_at, copy_of}, proofs.Installed.get_name}
 use Rattle.tq_store.proofs.copies.Copies.noted_copy.Goals as goal
 
 pub returns-then-eq : goal.returns-then-eq

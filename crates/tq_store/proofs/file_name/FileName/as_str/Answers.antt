@@ -1,5 +1,4 @@
-use Rattle.std.specs.Str.{IsUtf8}
-use Rattle.std.proofs.Common.{rules}
+use Rattle.std.{specs.Str.IsUtf8, proofs.Common.rules}
 use Rattle.tq_store.proofs.Padded.{IsUtf8-name, succeeds}
 use Rattle.tq_store.proofs.file_name.FileName.as_str.Goals as goal
 

@@ -1,7 +1,6 @@
 use Rattle.std.proofs.Common.{◌≡◌, ◌++◌, length, drop, ℕ, List, replicate, true, refl, ap, sym, ◌∙◌, rules, IsTrue}
 use Rattle.std.proofs.lemmas.List.{drop-replicate}
-use Rattle.tq_store.specs.Names.{is_file_name, name_in, padded_name}
-use Rattle.tq_store.proofs.Padded.{name_in-padded}
+use Rattle.tq_store.{specs.Names.{is_file_name, name_in, padded_name}, proofs.Padded.name_in-padded}
 use Rattle.tq_store.proofs.file_name.FileName.new.Goals as goal
 
 abbrev zeros : ℕ → List ℕ

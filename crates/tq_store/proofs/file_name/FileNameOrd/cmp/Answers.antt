@@ -1,5 +1,4 @@
-use Rattle.std.proofs.Common.{◌∙◌}
-use Rattle.std.specs.Ordering.{nat_cmp}
+use Rattle.std.{proofs.Common.◌∙◌, specs.Ordering.nat_cmp}
 use Rattle.tq_store.proofs.Spelled.{same, other, first_word, second_word, third_word, fourth_word}
 use Rattle.tq_store.proofs.file_name.FileNameOrd.cmp.Goals as goal
 

@@ -1,5 +1,4 @@
-use Rattle.std.proofs.Common.{◌∙◌, ◌&&◌, sym, nat_eq}
-use Rattle.std.specs.Cmp.Lexicographic.{bytes_decides}
+use Rattle.std.{proofs.Common.{◌∙◌, ◌&&◌, sym, nat_eq}, specs.Cmp.Lexicographic.bytes_decides}
 use Rattle.tq_store.proofs.Spelled.{eq_words}
 use Rattle.tq_store.proofs.file_name.FileNamePartialEq.eq.Goals as goal
 

@@ -1,6 +1,5 @@
-use Rattle.std.proofs.Common.{take, is_some, position, sym, ap, subst, ◌∙◌, arith}
+use Rattle.std.{proofs.Common.{take, is_some, position, sym, ap, subst, ◌∙◌, arith}, specs.List.IsDistinct}
 use Rattle.tq_store.proofs.Placed.{opened, placed_found}
-use Rattle.std.specs.List.{IsDistinct}
 use Rattle.indexmap.proofs.MapLemmas.{some_index}
 use Rattle.tq_store.proofs.ordered.Ordered.find.Goals as goal
 

@@ -1,6 +1,6 @@
 use Rattle.std.proofs.{Common.{◌<◌, length, sym, ap, subst, ◌∙◌, arith, slice_get}, lemmas.Option.slice_get_past}
-use Rattle.tq_store.proofs.Placed.{opened}
 use Rattle.std.specs.List.{IsDistinct}
+use Rattle.tq_store.proofs.Placed.{opened}
 use Rattle.std_collections.proofs.{Zip.slice_get-zip, HashMapEq.own_value}
 use Rattle.tq_store.proofs.ordered.Ordered.get_index.Goals as goal
 

@@ -1,6 +1,5 @@
-use Rattle.std.proofs.Common.{is_some, refl, sym, ap, subst, ◌∙◌, true≢false}
+use Rattle.std.{proofs.Common.{is_some, refl, sym, ap, subst, ◌∙◌, true≢false}, specs.List.IsDistinct}
 use Rattle.indexmap.proofs.MapLemmas.{Found-position, Missing-position}
-use Rattle.std.specs.List.{IsDistinct}
 use Rattle.std_collections.proofs.Entries.{keys_set_value_at, length-set_value_at}
 use Rattle.std_collections.proofs.HashLookup.{set_value-IsFirst, set_value-IsAbsent, Updated-set}
 use Rattle.tq_store.proofs.ordered.Ordered.get_mut.Goals as goal

@@ -1,6 +1,6 @@
 use Rattle.std.proofs.Common.{◌≡◌, ◌∷◌, ◌++◌, [], length, Some, rules, sym, ap, subst, ◌∙◌, arith, length-append}
-use Rattle.indexmap.proofs.MapLemmas.{Found-position, Missing-position, insert_entry-first, insert_entry-absent}
 use Rattle.std.specs.{List.IsDistinct, Map.keys_of}
+use Rattle.indexmap.proofs.MapLemmas.{Found-position, Missing-position, insert_entry-first, insert_entry-absent}
 use Rattle.indexmap.specs.IndexMap.{set_value_at}
 use Rattle.std_collections.proofs.Entries.{keys_set_value_at, length-set_value_at}
 use Rattle.std_collections.proofs.HashLookup.{Updated, Updated-set, Updated-push, distinct_push}

@@ -1,6 +1,5 @@
-use Rattle.std.proofs.Common.{subst, ◌∙◌}
+use Rattle.std.{proofs.Common.{subst, ◌∙◌}, specs.List.IsDistinct}
 use Rattle.tq_store.proofs.Placed.{opened}
-use Rattle.std.specs.List.{IsDistinct}
 use Rattle.tq_store.proofs.ordered.Ordered.len.Goals as goal
 
 pub returns-clause-len : goal.returns-clause-len

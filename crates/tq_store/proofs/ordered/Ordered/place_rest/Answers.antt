@@ -1,6 +1,5 @@
-use Rattle.std.proofs.Common.{sym, subst, ◌∙◌}
+use Rattle.std.{proofs.Common.{sym, subst, ◌∙◌}, specs.List.IsDistinct}
 use Rattle.tq_store.proofs.Placed.{opened}
-use Rattle.std.specs.List.{IsDistinct}
 use Rattle.indexmap.specs.IndexMap.{IsUnique}
 use Rattle.tq_store.proofs.ordered.Ordered.place_rest.Goals as goal
 

@@ -1,7 +1,6 @@
 use Rattle.std.proofs.Common.{◌≡◌, ◌-◌, ◌++◌, ◌∷◌, [], length, position, None, min, sym, ap, subst, ◌∙◌, arith, zip, length-append}
-use Rattle.tq_store.proofs.Placed.{opened, distinct_push, placed_longer}
 use Rattle.std.specs.List.{IsDistinct}
-use Rattle.tq_store.specs.Bounded.{ArePlaced, with_spare}
+use Rattle.tq_store.{proofs.Placed.{opened, distinct_push, placed_longer}, specs.Bounded.{ArePlaced, with_spare}}
 use Rattle.std_collections.proofs.Zip.{zip-append}
 use Rattle.indexmap.specs.IndexMap.{spare}
 use Rattle.tq_store.proofs.ordered.Ordered.push.Goals as goal

@@ -1,8 +1,7 @@
 use Rattle.std.proofs.Common.{Some, sym, ap, ◌∙◌, arith, slice_get}
-use Rattle.tq_store.proofs.Placed.{opened}
+use Rattle.tq_store.{proofs.Placed.opened, specs.Bounded.with_spare}
 use Rattle.std_collections.proofs.Zip.{slice_get_at, zip-set_value}
 use Rattle.indexmap.specs.IndexMap.{set_value_at}
-use Rattle.tq_store.specs.Bounded.{with_spare}
 use Rattle.tq_store.proofs.ordered.Ordered.replace.Goals as goal
 
 pub index_mut-requires : goal.index_mut-requires

@@ -1,6 +1,5 @@
-use Rattle.std.proofs.Common.{sym, ap, subst, ◌∙◌, zip}
+use Rattle.std.{proofs.Common.{sym, ap, subst, ◌∙◌, zip}, specs.{List.IsDistinct, Map.keys_of}}
 use Rattle.tq_store.proofs.Placed.{opened}
-use Rattle.std.specs.{List.IsDistinct, Map.keys_of}
 use Rattle.tq_store.proofs.ordered.Ordered.reserve.Goals as goal
 
 pub returns-in_err-reserve-clause-unique : goal.returns-in_err-reserve-clause-unique

@@ -1,8 +1,7 @@
 use Rattle.std.proofs.Common.{◌≡◌, ◌<◌, length, sym, ap, subst, ◌∙◌, arith, rules, slice_get, zip, swap_remove}
-use Rattle.tq_store.proofs.Placed.{distinct_removed, opened}
 use Rattle.std.specs.List.{IsDistinct}
+use Rattle.tq_store.{proofs.Placed.{distinct_removed, opened}, specs.Bounded.ArePlaced}
 use Rattle.std_collections.proofs.Zip.{slice_get-zip, zip-swap_remove}
-use Rattle.tq_store.specs.Bounded.{ArePlaced}
 use Rattle.tq_store.proofs.ordered.Ordered.swap_remove_index.Goals as goal
 
 pub move_last-self-inside-requires-clause-within : goal.move_last-self-inside-requires-clause-within

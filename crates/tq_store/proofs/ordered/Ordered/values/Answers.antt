@@ -1,5 +1,4 @@
-use Rattle.std.proofs.Common.{subst, ◌∙◌}
-use Rattle.std.specs.List.{IsDistinct}
+use Rattle.std.{proofs.Common.{subst, ◌∙◌}, specs.List.IsDistinct}
 use Rattle.tq_store.proofs.Placed.{opened}
 use Rattle.tq_store.proofs.ordered.Ordered.values.Goals as goal
 

@@ -1,9 +1,7 @@
-use Rattle.std.proofs.Common.{◌≡◌, length, sym, ap, subst, arith, zip}
+use Rattle.std.{proofs.Common.{◌≡◌, length, sym, ap, subst, arith, zip}, specs.List.{AllZip, IsDistinct}}
 use Rattle.std.proofs.lemmas.List.Elements.{length_all_zip, same_from_all_zip}
-use Rattle.tq_store.proofs.Placed.{opened, placed_same}
-use Rattle.std.specs.List.{AllZip, IsDistinct}
+use Rattle.tq_store.{proofs.Placed.{opened, placed_same}, specs.Bounded.ArePlaced}
 use Rattle.std_collections.proofs.Zip.{all_zip-zip}
-use Rattle.tq_store.specs.Bounded.{ArePlaced}
 use Rattle.tq_store.proofs.ordered.OrderedClone.clone.Goals as goal
 
 pub invariant_of-result : goal.invariant_of-result

@@ -1,6 +1,5 @@
 use Rattle.std.proofs.Common.{◌∙◌}
-use Rattle.tq_tables.specs.Same.{same_op}
-use Rattle.tq_tables.proofs.Equal.{pointwise-same, op-same}
+use Rattle.tq_tables.{specs.Same.same_op, proofs.Equal.{pointwise-same, op-same}}
 use Rattle.tq_tables.proofs.equality.desk.are_same_ops.Goals as goal
 
 pub returns : goal.returns

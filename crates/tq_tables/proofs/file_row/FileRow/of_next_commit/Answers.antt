@@ -1,5 +1,4 @@
-use Rattle.std.proofs.Common.{ℕ, ◌≤◌, length, ap, sym, subst, ◌∙◌}
-use Rattle.std.specs.List.{All}
+use Rattle.std.{proofs.Common.{ℕ, ◌≤◌, length, ap, sym, subst, ◌∙◌}, specs.List.All}
 use Rattle.tq_shape.specs.ServerSet.{servers_of_numbers}
 use Rattle.tq_tables.specs.{Files.stood_in, Parts.AreOfTree, Rows.has_version, declared.file_row.FileRow.FileRow}
 use Rattle.tq_tables.proofs.Settled.{are-within, at_next, next-exact}

@@ -1,6 +1,5 @@
-use Rattle.std.proofs.Common.{◌-◌, ◌<◌, ℕ, List, length, get_or, refl, ap, sym, subst, ◌∙◌, arith}
+use Rattle.std.{proofs.Common.{◌-◌, ◌<◌, ℕ, List, length, get_or, refl, ap, sym, subst, ◌∙◌, arith}, specs.List.All}
 use Rattle.std.proofs.lemmas.List.Elements.{All-head, All-rest}
-use Rattle.std.specs.List.{All}
 use Rattle.tq_shape.specs.Tree.{Server}
 use Rattle.tq_node.specs.Node.{NodeView}
 use Rattle.tq_tables.specs.{Files.{IsOfLevels, row_by_copy, stood_in}, declared.file_row.FileRow.FileRow}

@@ -1,6 +1,5 @@
 use Rattle.std.proofs.Common.{List, ap, ◌∙◌}
-use Rattle.tq_tables.specs.{Files.with_rows, declared.file_row.FileRow.FileRow}
-use Rattle.tq_tables.proofs.Kept.{with_rows-apart}
+use Rattle.tq_tables.{specs.{Files.with_rows, declared.file_row.FileRow.FileRow}, proofs.Kept.with_rows-apart}
 use Rattle.tq_tables.proofs.file_table.FileTable.of.Goals as goal
 
 pub returns : goal.returns

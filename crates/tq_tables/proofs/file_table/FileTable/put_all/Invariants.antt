@@ -1,5 +1,4 @@
-use Rattle.std.proofs.Common.{◌≡◌, ◌≤◌, List, length}
-use Rattle.std.specs.Vec.Iter.{into_iter_items}
+use Rattle.std.{proofs.Common.{◌≡◌, ◌≤◌, List, length}, specs.Vec.Iter.into_iter_items}
 use Rattle.tq_tables.specs.{Files.{AreOfLevels, FilesView, with_rows}, declared.file_row.FileRow.FileRow}
 use Rattle.tq_tables.proofs.file_table.FileTable.put_all.Given as goal
 

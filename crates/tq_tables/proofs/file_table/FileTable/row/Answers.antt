@@ -1,5 +1,4 @@
-use Rattle.std.proofs.Common.{ap, ◌∙◌}
-use Rattle.std.specs.Map.{lookup}
+use Rattle.std.{proofs.Common.{ap, ◌∙◌}, specs.Map.lookup}
 use Rattle.tq_store.specs.Names.{same_name}
 use Rattle.tq_tables.specs.Files as spec
 use Rattle.tq_tables.specs.Files.{FilesView}

@@ -3,9 +3,8 @@ use Rattle.std.proofs.Common.{◌≡◌, ◌∙◌, ℕ, Bool, true, false, List
 use Rattle.std.proofs.lemmas.Bool.{OnFalse_at, OnFalse_from, OnTrue_at, OnTrue_from}
 use Rattle.tq_node.specs.Node.{NodeView}
 use Rattle.tq_tables.specs.Files.{AreFiles, FilesView, IsFileAt, StandsAt, by_file, stood_at}
-use Rattle.tq_tables.specs.declared.file_row.FileRow.{FileRow}
+use Rattle.tq_tables.{specs.declared.file_row.FileRow.FileRow, proofs.Placed.{named-at, placed, stand-entries-placed}}
 use Rattle.tq_tables.proofs.Kept.{are-files, are-rows, Apart-stood, of_tree-stood}
-use Rattle.tq_tables.proofs.Placed.{named-at, placed, stand-entries-placed}
 use Rattle.tq_tables.proofs.file_table.FileTable.set_currency_at.Goals as goal
 
 module _ (levels place : ℕ) (file : List ℕ) (node : NodeView) (entries new : List (List ℕ × FileRow)) (are : AreFiles levels entries) where

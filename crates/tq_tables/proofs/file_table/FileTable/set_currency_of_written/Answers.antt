@@ -1,11 +1,10 @@
 use Rattle.std.proofs.Common.{◌≡◌, ◌+◌, ◌++◌, Bool, true, List, [], ◌∷◌, map, take, ap, sym, subst, ◌∙◌}
-use Rattle.std.proofs.lemmas.List.{map-append}
-use Rattle.std.specs.Bool.{OnTrue}
+use Rattle.std.{proofs.lemmas.List.map-append, specs.Bool.OnTrue}
 use Rattle.tq_store.specs.declared.write.Write.{Write}
 use Rattle.tq_tables.specs.{Files.{HaveRows, has_row}, Rows.is_in, declared.file_row.FileRow.FileRow}
-use Rattle.tq_tables.specs.Files as spec
 use Rattle.tq_tables.proofs.{Held.{have-next, names-all_stood}, Kept.all_stood-append, RowLaws.take-next}
 use Rattle.tq_tables.proofs.file_table.FileTable.set_currency_of_written.Goals.{then-not-set_currency, else-not-set_currency}
+use Rattle.tq_tables.specs.Files as spec
 use Rattle.tq_tables.proofs.file_table.FileTable.set_currency_of_written.Goals as goal
 
 pub loop-write-preserved : goal.loop-write-preserved

@@ -1,5 +1,4 @@
-use Rattle.std.proofs.Common.{◌≡◌, map, take}
-use Rattle.std.specs.Bool.{OnTrue}
+use Rattle.std.{proofs.Common.{◌≡◌, map, take}, specs.Bool.OnTrue}
 use Rattle.tq_tables.specs.Files.{HaveRows, all_stood}
 use Rattle.tq_tables.proofs.file_table.FileTable.set_currency_of_written.Given as goal
 

@@ -1,6 +1,5 @@
 use Rattle.std.proofs.Common.{sym, subst}
-use Rattle.tq_tables.specs.Parts.{AreOfTree}
-use Rattle.tq_tables.proofs.{Held.none-held, RowLaws.AreOfTree-nodes_at}
+use Rattle.tq_tables.{specs.Parts.AreOfTree, proofs.{Held.none-held, RowLaws.AreOfTree-nodes_at}}
 use Rattle.tq_tables.proofs.holders.Holders.new.Goals as goal
 
 pub all_servers-requires : goal.all_servers-requires

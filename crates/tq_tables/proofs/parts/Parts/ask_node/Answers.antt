@@ -1,9 +1,7 @@
-use Rattle.std.proofs.Common.{ℕ, ◌≡◌, ◌-◌, ◌<◌, length, ap, ◌∙◌, arith, Result, Ok, Err}
-use Rattle.std.specs.Prelude.{OnOk, OnErr}
+use Rattle.std.{proofs.Common.{ℕ, ◌≡◌, ◌-◌, ◌<◌, length, ap, ◌∙◌, arith, Result, Ok, Err}, specs.Prelude.{OnOk, OnErr}}
 use Rattle.tq_asks.specs.declared.ask.NodeAsk.{NodeAsk}
 use Rattle.tq_node.specs.Node.{NodeView, server_after}
-use Rattle.tq_tables.specs.Parts.{PartsView}
-use Rattle.tq_tables.proofs.{RowLaws.at-place, Stood.AreOfTree-set}
+use Rattle.tq_tables.{specs.Parts.PartsView, proofs.{RowLaws.at-place, Stood.AreOfTree-set}}
 use Rattle.tq_tables.proofs.parts.Parts.ask_node.Goals as goal
 
 -- whatever it answers, a server stays the same one of the same tree

@@ -1,6 +1,5 @@
 use Rattle.std.proofs.Common.{◌-◌, ◌<◌, length, ap, ◌∙◌, arith}
-use Rattle.tq_tables.specs.Parts.{PartsView}
-use Rattle.tq_tables.proofs.RowLaws.{at-place}
+use Rattle.tq_tables.{specs.Parts.PartsView, proofs.RowLaws.at-place}
 use Rattle.tq_tables.proofs.parts.Parts.node.Goals as goal
 
 pub returns-clause-of_tree : goal.returns-clause-of_tree

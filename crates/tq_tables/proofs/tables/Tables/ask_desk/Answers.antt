@@ -1,17 +1,15 @@
-use Rattle.std.specs.Prelude.{reverse}
-use Rattle.std.proofs.Common.{refl, ◌≡◌, ◌+◌, ◌<◌, ◌^◌, ℕ, List, ap, sym, subst, ◌∙◌}
+use Rattle.std.{specs.Prelude.reverse, proofs.Common.{refl, ◌≡◌, ◌+◌, ◌<◌, ◌^◌, ℕ, List, ap, sym, subst, ◌∙◌}}
 use Rattle.tq_desk.specs.DeskPlans.{DeskFits, desk_change, desk_changed, change_fits, change_leads}
 use Rattle.tq_desk.specs.{DeskJournal.{commits, with_commit}, DeskStep.{DeskView, desk_reply}}
 use Rattle.tq_desk.specs.declared.{ask.DeskReply.DeskReply, desk.DeskChange.DeskChange}
 use Rattle.tq_node.specs.Node.{NodeView}
 use Rattle.tq_shape.specs.Journal.{entry}
 use Rattle.tq_tables.specs.{Rows.{names_of, file_rows, files_in}, Files.FilesView, Journals.with_desk, Parts.PartsView}
-use Rattle.tq_tables.specs.{Tables.{TablesView, tables_at}, declared.file_row.FileRow.FileRow}
-use Rattle.tq_tables.specs.declared.parts.Replies.{Replies}
-use Rattle.tq_tables.specs.Files as spec
+use Rattle.tq_tables.specs.{Tables.{TablesView, tables_at}, declared.{file_row.FileRow.FileRow, parts.Replies.Replies}}
 use Rattle.tq_tables.proofs.{Held.{held-put, held-same}, Restood.exact-rows}
 use Rattle.tq_tables.proofs.Noted.{asked, asked-at, begun-room, commits-room, desk-noted, desk-replied, rows-at, rows-then, bare-is, nothing-kept, nothing-reserved, shown}
 use Rattle.tq_tables.proofs.Written.{entry-rows, of_tree-next, rows_next, version-room}
+use Rattle.tq_tables.specs.Files as spec
 use Rattle.tq_tables.proofs.tables.Tables.ask_desk.Goals as goal
 
 pub plan-requires-clause-begun : goal.plan-requires-clause-begun

@@ -1,15 +1,14 @@
-use Rattle.std.specs.Prelude.{reverse}
+use Rattle.std.{specs.Prelude.reverse, proofs.lemmas.List.length-set}
 use Rattle.std.proofs.Common.{◌≡◌, ℕ, ◌-◌, ◌<◌, ◌≤◌, length, set, get_or, ap, sym, subst, ◌∙◌, refl, arith}
-use Rattle.std.proofs.lemmas.List.{length-set}
 use Rattle.tq_desk.specs.DeskJournal.{commits}
 use Rattle.tq_node.specs.{Node.{NodeView, server_after}, Records.node_reply, Telling.{AreReached, raised_files}}
 use Rattle.tq_shape.specs.Journal.{entry}
 use Rattle.tq_tables.specs.{Tables.{both, node_in, with_node, TablesView, tables_at}, declared.holders.Holders.Holders}
 use Rattle.tq_tables.specs.{Files.{AreHolders, held_by, FilesView}, Parts.{AreOfTree, PartsView}, Rows.file_rows}
-use Rattle.tq_tables.specs.Files as spec
 use Rattle.tq_tables.proofs.{Held.{held-asked, held-same}, RowLaws.of_tree-at}
 use Rattle.tq_tables.proofs.Noted.{rows-at, bare-is, nothing-kept, nothing-reserved, shown}
 use Rattle.tq_tables.proofs.Restood.{below, found-put, is_there, next-number, node-noted, node_in-at, rows-stand, stands-at, with_nodes, with_nodes-at}
+use Rattle.tq_tables.specs.Files as spec
 use Rattle.tq_tables.proofs.tables.Tables.ask_node.Goals as goal
 
 pub ask_node-requires-clause-there : goal.ask_node-requires-clause-there

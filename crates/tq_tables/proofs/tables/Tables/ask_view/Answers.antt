@@ -1,9 +1,8 @@
 use Rattle.std.proofs.Common.{◌≡◌, ap, refl, sym, subst, ◌∙◌}
 use Rattle.tq_live.specs.ViewLaws.{keeps_levels}
 use Rattle.tq_shape.specs.Journal.{entry}
-use Rattle.tq_tables.specs.{Parts.PartsView, Files.AreHolders, Reserved.{IsReserve, unready}}
-use Rattle.tq_tables.specs.Tables.{TablesView, tables_at}
-use Rattle.tq_tables.proofs.{Noted.{inside-is, view-noted, viewed, viewed-at}, Held.held-same}
+use Rattle.tq_tables.{specs.{Parts.PartsView, Files.AreHolders, Reserved.{IsReserve, unready}}, proofs.Held.held-same}
+use Rattle.tq_tables.{specs.Tables.{TablesView, tables_at}, proofs.Noted.{inside-is, view-noted, viewed, viewed-at}}
 use Rattle.tq_tables.proofs.tables.Tables.ask_view.Goals as goal
 
 pub invariant_of-self : goal.invariant_of-self

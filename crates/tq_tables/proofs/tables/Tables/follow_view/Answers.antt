@@ -1,7 +1,6 @@
 use Rattle.std.proofs.Common.{ap}
 use Rattle.tq_shape.specs.Journal.{entry}
-use Rattle.tq_tables.specs.Reserved.{unready}
-use Rattle.tq_tables.proofs.Noted.{view-stays}
+use Rattle.tq_tables.{specs.Reserved.unready, proofs.Noted.view-stays}
 use Rattle.tq_tables.proofs.tables.Tables.follow_view.Goals as goal
 
 pub returns-then-changes_nothing-clause-noted : goal.returns-then-changes_nothing-clause-noted

@@ -1,6 +1,5 @@
 use Rattle.std.proofs.Common.{ap, ◌∙◌}
-use Rattle.tq_tables.specs.Files.{FilesView}
-use Rattle.tq_tables.proofs.Restood.{empty-is}
+use Rattle.tq_tables.{specs.Files.FilesView, proofs.Restood.empty-is}
 use Rattle.tq_tables.proofs.tables.Tables.new.Goals as goal
 
 pub returns : goal.returns

@@ -1,7 +1,6 @@
 use Rattle.std.proofs.Common.{ap, sym, subst, ◌∙◌}
-use Rattle.tq_tables.specs.Tables.{IsNextEntry, TablesView}
+use Rattle.tq_tables.{specs.Tables.{IsNextEntry, TablesView}, proofs.Noted.{inside-is, noted, nothing-reserved, taken}}
 use Rattle.tq_tables.specs.Reserved.{AreFollowed, ready_entry, reserved_entry, tables_in, unready, with_ready}
-use Rattle.tq_tables.proofs.Noted.{inside-is, noted, nothing-reserved, taken}
 use Rattle.tq_tables.proofs.tables.Tables.note.Goals as goal
 
 pub invariant_of-self : goal.invariant_of-self

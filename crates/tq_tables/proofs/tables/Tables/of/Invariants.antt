@@ -1,6 +1,5 @@
 use Rattle.std.proofs.Common.{◌≡◌, length}
-use Rattle.tq_tables.specs.Tables.{tables_of}
-use Rattle.tq_tables.proofs.Again.{until}
+use Rattle.tq_tables.{specs.Tables.tables_of, proofs.Again.until}
 use Rattle.tq_tables.proofs.tables.Tables.of.Given as goal
 
 abbrev pub invariant-loop-view_entry : goal.invariant-loop-view_entry

@@ -1,6 +1,5 @@
 use Rattle.std.proofs.Common.{sym, subst}
-use Rattle.tq_tables.specs.Reserved.{AreReady, tables_in}
-use Rattle.tq_tables.proofs.Noted.{made-ready}
+use Rattle.tq_tables.{specs.Reserved.{AreReady, tables_in}, proofs.Noted.made-ready}
 use Rattle.tq_tables.proofs.tables.Tables.reserve.Goals as goal
 
 pub invariant_of-self : goal.invariant_of-self

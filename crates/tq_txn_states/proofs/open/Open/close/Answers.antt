@@ -1,6 +1,5 @@
 use Rattle.std.proofs.Common.{◌∙◌, ap}
-use Rattle.tq_txn_states.specs.Voting.{voting_of}
-use Rattle.tq_txn_states.proofs.CitedLaws.{close_cited}
+use Rattle.tq_txn_states.{specs.Voting.voting_of, proofs.CitedLaws.close_cited}
 use Rattle.tq_txn_states.proofs.open.Open.close.Goals as goal
 
 pub returns-clause-cited : goal.returns-clause-cited

@@ -1,7 +1,6 @@
 use Rattle.std.proofs.Common.{◌∙◌, ap}
 use Rattle.tq_evidence.specs.declared.op.OpKind.TheVariants as kinds
-use Rattle.tq_txn_states.specs.Open.{read_op, txn_after_op}
-use Rattle.tq_txn_states.proofs.CitedLaws.{taken_cited}
+use Rattle.tq_txn_states.{specs.Open.{read_op, txn_after_op}, proofs.CitedLaws.taken_cited}
 use Rattle.tq_txn_states.proofs.open.Open.read.Goals as goal
 
 pub returns-clause-after : goal.returns-clause-after

@@ -1,7 +1,6 @@
 use Rattle.std.proofs.Common.{◌≡◌, ◌∙◌, sym, subst, ap, true}
 use Rattle.tq_store.specs.declared.copies.FileCopy.{FileCopy}
-use Rattle.tq_txn_states.specs.Open.{is_member, read_copy}
-use Rattle.tq_txn_states.proofs.GoodGrants.{good_read_of}
+use Rattle.tq_txn_states.{specs.Open.{is_member, read_copy}, proofs.GoodGrants.good_read_of}
 use Rattle.tq_txn_states.proofs.open.Open.read_granted.Goals as goal
 
 pub take-requires : goal.take-requires

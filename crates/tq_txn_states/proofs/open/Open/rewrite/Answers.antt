@@ -1,6 +1,6 @@
 use Rattle.tq_txn_states.proofs.{GoodOps.IsOpen-rewritten, CitedLaws.rewrite_keeps}
-use Rattle.std.proofs.Common.{List}
 use Rattle.tq_txn_states.specs.{declared.told.NodeTold.NodeTold, Voting.KeepsOnly, Open.OpenView}
+use Rattle.std.proofs.Common.{List}
 use Rattle.tq_txn_states.proofs.open.Open.rewrite.Goals as goal
 
 pub invariant_of-self : goal.invariant_of-self

@@ -1,6 +1,5 @@
 use Rattle.std.proofs.Common.{subst, ◌∙◌, ap, rules}
-use Rattle.tq_txn_states.specs.Open.{OpenView, IsOpen}
-use Rattle.tq_txn_states.proofs.{CitedLaws.evidence_cited, GoodEvidence.good_evidence}
+use Rattle.tq_txn_states.{specs.Open.{OpenView, IsOpen}, proofs.{CitedLaws.evidence_cited, GoodEvidence.good_evidence}}
 use Rattle.tq_txn_states.proofs.ready.Ready.evidence.Goals as goal
 
 pub returns-in_err-ops-clause-good : goal.returns-in_err-ops-clause-good

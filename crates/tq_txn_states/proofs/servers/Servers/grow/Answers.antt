@@ -1,8 +1,7 @@
 use Rattle.std.proofs.Common.{◌≡◌, ◌≤◌, ◌∙◌, true, sym, ap, subst}
 use Rattle.tq_coterie.specs.Coterie.{is_quorum}
 use Rattle.tq_evidence.specs.Evidence.{granters}
-use Rattle.tq_txn_states.specs.Open.{RoomySet, IsReady}
-use Rattle.tq_txn_states.proofs.{Searched.with_numbers-held, GoodGrants.granter_of}
+use Rattle.tq_txn_states.{specs.Open.{RoomySet, IsReady}, proofs.{Searched.with_numbers-held, GoodGrants.granter_of}}
 use Rattle.tq_txn_states.proofs.servers.Servers.grow.Goals as goal
 
 pub returns-then-not-grows-clause-servers : goal.returns-then-not-grows-clause-servers

@@ -1,8 +1,6 @@
-use Rattle.std.proofs.Common.{◌≡◌, ◌∙◌, ℕ, Some, List, true, sym, ap, subst}
-use Rattle.std.specs.Option.{option_copied}
+use Rattle.std.{proofs.Common.{◌≡◌, ◌∙◌, ℕ, Some, List, true, sym, ap, subst}, specs.Option.option_copied}
 use Rattle.tq_evidence.specs.{declared.op.Op.Op, Evidence.{is_server_of, are_writes_at}}
-use Rattle.tq_txn_states.specs.Voting.{VotingView, lost_file, vote_of, writes_in}
-use Rattle.tq_txn_states.proofs.GoodVotes.{none_lost}
+use Rattle.tq_txn_states.{specs.Voting.{VotingView, lost_file, vote_of, writes_in}, proofs.GoodVotes.none_lost}
 use Rattle.tq_txn_states.proofs.voting.Voting.cast_by.Goals as goal
 
 pub returns-clause-good : goal.returns-clause-good

@@ -2,8 +2,7 @@ use Rattle.std.proofs.Common.{◌≡◌, ◌∙◌, true, List, sym, ap}
 use Rattle.tq_asks.specs.declared.ask.{NodeAsk.TheVariants.Work, WorkAsk.TheVariants.Prepare}
 use Rattle.tq_store.specs.declared.write.Write.{Write}
 use Rattle.tq_evidence.specs.declared.op.Op.{Op}
-use Rattle.tq_txn_states.specs.Voting.{writes_all_at, writes_at}
-use Rattle.tq_txn_states.proofs.GoodEvidence.{writes_all}
+use Rattle.tq_txn_states.{specs.Voting.{writes_all_at, writes_at}, proofs.GoodEvidence.writes_all}
 use Rattle.tq_txn_states.proofs.voting.Voting.keep.Goals as goal
 
 pub invariant_of-self-then-is_ask_at-4 : goal.invariant_of-self-then-is_ask_at-4

@@ -1,5 +1,4 @@
-use Rattle.std.proofs.{Common.{◌≡◌, ◌∙◌, false, sym, ap, refl}, lemmas.List.Folds.list_all-map}
-use Rattle.std.specs.List.{list_all}
+use Rattle.std.{proofs.{Common.{◌≡◌, ◌∙◌, false, sym, ap, refl}, lemmas.List.Folds.list_all-map}, specs.List.list_all}
 use Rattle.tq_shape.specs.Tree.{Server}
 use Rattle.tq_txn_states.specs.Voting.{has_vote, has_votes}
 use Rattle.tq_txn_states.proofs.voting.Voting.ready.Goals as goal

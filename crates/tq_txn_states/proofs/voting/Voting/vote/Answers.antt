@@ -1,5 +1,4 @@
-use Rattle.std.proofs.Common.{subst}
-use Rattle.std.specs.Prelude.{IfErr}
+use Rattle.std.{proofs.Common.subst, specs.Prelude.IfErr}
 use Rattle.tq_txn_states.specs.{declared.told.NodeTold.NodeTold, Voting.{TakesVote, vote_fault}, Open.ComesOf}
 use Rattle.tq_txn_states.proofs.voting.Voting.vote.Goals as goal
 

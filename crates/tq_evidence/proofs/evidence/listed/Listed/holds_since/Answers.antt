@@ -1,7 +1,6 @@
 use Rattle.std.proofs.Common.{◌∙◌, ap}
 use Rattle.std.specs.FinMap as fin
-use Rattle.tq_evidence.specs.Evidence.{holds_since, is_since}
-use Rattle.tq_evidence.proofs.HeldTable.{is_since-least_since}
+use Rattle.tq_evidence.{specs.Evidence.{holds_since, is_since}, proofs.HeldTable.is_since-least_since}
 use Rattle.tq_evidence.proofs.evidence.listed.Listed.holds_since.Goals as goal
 
 pub returns-in-Some : goal.returns-in-Some

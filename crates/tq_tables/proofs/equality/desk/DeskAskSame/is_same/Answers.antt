@@ -1,6 +1,5 @@
 use Rattle.std.proofs.lemmas.Bool.Decides.{Decides-at}
-use Rattle.tq_tables.specs.Same.{same_desk_ask}
-use Rattle.tq_tables.proofs.Equal.{decides, desk_ask-is, desk_ask-self}
+use Rattle.tq_tables.{specs.Same.same_desk_ask, proofs.Equal.{decides, desk_ask-is, desk_ask-self}}
 use Rattle.tq_tables.proofs.equality.desk.DeskAskSame.is_same.Goals as goal
 
 pub returns : goal.returns

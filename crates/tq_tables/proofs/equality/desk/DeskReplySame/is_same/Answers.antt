@@ -1,6 +1,5 @@
 use Rattle.std.proofs.lemmas.Bool.Decides.{Decides-at}
-use Rattle.tq_tables.specs.Same.{same_desk_reply}
-use Rattle.tq_tables.proofs.Equal.{decides, desk_reply-is, desk_reply-self}
+use Rattle.tq_tables.{specs.Same.same_desk_reply, proofs.Equal.{decides, desk_reply-is, desk_reply-self}}
 use Rattle.tq_tables.proofs.equality.desk.DeskReplySame.is_same.Goals as goal
 
 pub returns : goal.returns

@@ -1,6 +1,5 @@
 use Rattle.std.proofs.lemmas.Bool.Decides.{Decides-at}
-use Rattle.tq_tables.specs.Same.{same_node_reply}
-use Rattle.tq_tables.proofs.Equal.{decides, node_reply-is, node_reply-self}
+use Rattle.tq_tables.{specs.Same.same_node_reply, proofs.Equal.{decides, node_reply-is, node_reply-self}}
 use Rattle.tq_tables.proofs.equality.node.NodeReplySame.is_same.Goals as goal
 
 pub returns : goal.returns

@@ -1,6 +1,6 @@
 use Rattle.std.proofs.Common.{◌≡◌, ◌≤◌, ◌++◌, drop, length, vec_capacity, vec_len}
-use Rattle.tq_desk.specs.DeskStep.{cited_votes}
-use Rattle.tq_desk.proofs.desk.cited_votes.Given as goal
+use Rattle.tq_desk.specs.Ballots.{cited_votes}
+use Rattle.tq_desk.proofs.ballot.cited_votes.Given as goal
 
 abbrev pub invariant-loop-vote : goal.invariant-loop-vote
 invariant-loop-vote l = record {
